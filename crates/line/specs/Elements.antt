@@ -1,0 +1,73 @@
+-- Document 01, "Elements": lines. L is the highest level. Definitions only.
+--
+--   "Lower line half is 0, upper is 1."   "Line face 0 is x-h, face 1 is x+h."
+--   "children 2 ..; faces 2": 1 level above the highest, 2 anchor 2^21 or more, or no multiple of h
+--
+--   lineTo L      lines as a shape, highest level L
+--   line          "highest level 21 for all three"
+--   elementOf     the outcome that a LineAnswer stands for
+--   element i     entry i of the two lent columns
+--   elements      all of them
+--
+-- Assumes nothing.
+use mathlib.Core.Bool.{_&&_}
+use mathlib.Core.List.{List}
+use Prim.Native.Nat.{ℕ, zero, suc, _+_, _-_, _*_, _^_}
+use lib.Dec.{leb, ltb, eqb}
+use lib.ListN.{length, getD}
+use Rattle.paper.specs.Outcome.{Outcome, accepted, refused, refuse-when, fault-when, rows}
+use Rattle.tree.specs.Shape.{Shape}
+use Rattle.tree.specs.Anchors.{side, offGrid, rounded, bitAt}
+use Rattle.line.specs.declared.Line.{Line}
+use Rattle.line.specs.declared.LineAnswer.{LineAnswer}
+use Rattle.line.specs.declared.LineAnswer.the-variants.{Is, Refused}
+
+module _ (L : ℕ) where
+  abbrev pub fault : Line → ℕ
+  fault e = fault-when (ltb L (e .level)) 1 (fault-when (offGrid L (e .level) (e .x)) 2 0)
+
+  abbrev pub child : Line → ℕ → Line
+  child e i = record { x = e .x + i * side L (suc (e .level)); level = suc (e .level) }
+
+  abbrev pub parent : Line → Line
+  parent e = record { x = rounded L (e .level - 1) (e .x); level = e .level - 1 }
+
+  abbrev pub number : Line → ℕ
+  number e = bitAt L (e .level) (e .x)
+
+  unfoldable pub neighbour : Line → ℕ → Outcome Line
+  neighbour e zero =
+      refuse-when (ltb (e .x) (side L (e .level))) 10
+      (accepted (record { x = e .x - side L (e .level); level = e .level }))
+  neighbour e (suc i) =
+      refuse-when (leb (2 ^ L) (e .x + side L (e .level))) 10
+      (accepted (record { x = e .x + side L (e .level); level = e .level }))
+
+  unfoldable pub lineTo : Shape Line
+  lineTo =
+      record {
+        children = 2;
+        faces = 2;
+        highest = L;
+        level = λ e. e .level;
+        fault = fault;
+        root = record { x = 0; level = 0 };
+        child = child;
+        parent = parent;
+        number = number;
+        neighbour = neighbour;
+        same = λ e f. eqb (e .x) (f .x) && eqb (e .level) (f .level);
+      }
+
+abbrev pub line : Shape Line
+line = lineTo 21
+
+abbrev pub elementOf : LineAnswer → Outcome Line
+elementOf (Is e) = accepted e
+elementOf (Refused number place) = refused number place
+
+abbrev pub element : List ℕ → List ℕ → ℕ → Line
+element levels xs i = record { x = getD xs i 0; level = getD levels i 0 }
+
+abbrev pub elements : List ℕ → List ℕ → List Line
+elements levels xs = rows (element levels xs) 0 (length levels)

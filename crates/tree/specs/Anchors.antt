@@ -1,0 +1,23 @@
+-- Document 01, "Elements": one coordinate of an anchor. L is the highest level, 2^L the edge of the root. Definitions only.
+--
+--   side L l        "Level l has side h = 2^(21-l)"
+--   offGrid L l x   "An anchor is a multiple of h below 2^21 in each coordinate": x is not
+--   rounded L l x   the coordinate of the ancestor of level l: the multiple of its side at or below x
+--   bitAt L l x     the "anchor bit at its level": whether x is one side of level l above the ancestor of the level before
+--
+-- Assumes nothing.
+use mathlib.Core.Bool.{Bool, not, _||_}
+use Prim.Native.Nat.{ℕ, _-_, _*_, _/_, _%_, _^_}
+use lib.Dec.{leb, eqb}
+
+abbrev pub side : ℕ → ℕ → ℕ
+side L l = 2 ^ (L - l)
+
+abbrev pub offGrid : ℕ → ℕ → ℕ → Bool
+offGrid L l x = leb (2 ^ L) x || not (eqb (x % side L l) 0)
+
+abbrev pub rounded : ℕ → ℕ → ℕ → ℕ
+rounded L l x = x / side L l * side L l
+
+abbrev pub bitAt : ℕ → ℕ → ℕ → ℕ
+bitAt L l x = x / side L l % 2

@@ -1,0 +1,72 @@
+-- What is promised of the elements of every shape, as statements; `proofs/` proves them from what each shape shows of itself
+-- (`Lawful`), over the number of children and the highest level. Definitions only.
+--
+--   Sound e        e passes the checks on an element
+--   Lawful         what a shape shows of its own tables: one step down and one step up undo each other, among sound elements
+--   RoundTrips     "each position below eight to the power of the level gives back its element", and the other way round
+--   Positions      the positions of parent, child, successor, first and last descendant
+--   TotalOrder     the order of two is a total order
+--   Families       family is yes exactly for the children of one parent, in order
+--
+-- Assumes nothing.
+use mathlib.Core.Path.{_≡_}
+use mathlib.Core.Logic.{_↔_}
+use mathlib.Core.Bool.{true}
+use mathlib.Core.List.{List, List·Memᴰ}
+use Prim.Native.Nat.{ℕ, suc, _+_, _-_, _*_, _/_, _^_, _≤_, _<_}
+use Rattle.paper.specs.Outcome.{less, same, greater, rows}
+use Rattle.tree.specs.Shape.{Shape}
+use Rattle.tree.specs.Words.{at, position, successor, first, last, family, order}
+
+module _ {E : Type 0} (S : Shape E) where
+  abbrev pub Sound : E → Type 0
+  Sound e = S .fault e ≡ 0
+
+  abbrev pub childrenOf : E → List E
+  childrenOf f = rows (S .child f) 0 (S .children)
+
+  pub record Lawful : Type 0 where
+    pub several : 1 < S .children
+    pub root-sound : Sound (S .root)
+    pub root-level : S .level (S .root) ≡ 0
+    pub root-only : (e : E) → Sound e → S .level e ≡ 0 → e ≡ S .root
+    pub shallow : (e : E) → Sound e → S .level e ≤ S .highest
+    pub child-sound : (e : E) (i : ℕ) → Sound e → S .level e < S .highest → i < S .children → Sound (S .child e i)
+    pub child-level : (e : E) (i : ℕ) → S .level (S .child e i) ≡ suc (S .level e)
+    pub parent-sound : (e : E) → Sound e → 0 < S .level e → Sound (S .parent e)
+    pub parent-level : (e : E) → 0 < S .level e → suc (S .level (S .parent e)) ≡ S .level e
+    pub number-lt : (e : E) → Sound e → 0 < S .level e → S .number e < S .children
+    pub parent-child : (e : E) (i : ℕ) → Sound e → S .level e < S .highest → i < S .children → S .parent (S .child e i) ≡ e
+    pub number-child : (e : E) (i : ℕ) → Sound e → S .level e < S .highest → i < S .children → S .number (S .child e i) ≡ i
+    pub child-parent : (e : E) → Sound e → 0 < S .level e → S .child (S .parent e) (S .number e) ≡ e
+    pub same-refl : (e : E) → S .same e e ≡ true
+    pub same-eq : (e f : E) → S .same e f ≡ true → e ≡ f
+
+  pub record RoundTrips : Type 0 where
+    pub at-sound : (l p : ℕ) → l ≤ S .highest → p < S .children ^ l → Sound (at S l p)
+    pub at-level : (l p : ℕ) → S .level (at S l p) ≡ l
+    pub position-at : (l p : ℕ) → l ≤ S .highest → p < S .children ^ l → position S (at S l p) ≡ p
+    pub position-lt : (e : E) → Sound e → position S e < S .children ^ S .level e
+    pub at-position : (e : E) → Sound e → at S (S .level e) (position S e) ≡ e
+
+  pub record Positions : Type 0 where
+    pub of-parent : (e : E) → Sound e → 0 < S .level e → position S (S .parent e) ≡ position S e / S .children
+    pub of-child : (e : E) (i : ℕ) → Sound e → S .level e < S .highest → i < S .children
+        → position S (S .child e i) ≡ S .children * position S e + i
+    pub of-successor : (e : E) → Sound e → position S e + 1 < S .children ^ S .level e
+        → position S (successor S e) ≡ position S e + 1
+    pub of-first : (e : E) (l : ℕ) → Sound e → S .level e ≤ l → l ≤ S .highest
+        → position S (first S e l) ≡ position S e * S .children ^ (l - S .level e)
+    pub of-last : (e : E) (l : ℕ) → Sound e → S .level e ≤ l → l ≤ S .highest
+        → position S (last S e l) ≡ (position S e + 1) * S .children ^ (l - S .level e) - 1
+
+  pub record TotalOrder : Type 0 where
+    pub itself : (e : E) → order S e e ≡ same
+    pub identical : (e f : E) → Sound e → Sound f → order S e f ≡ same → e ≡ f
+    pub turned : (e f : E) → order S e f ≡ less ↔ order S f e ≡ greater
+    pub carried : (e f g : E) → order S e f ≡ less → order S f g ≡ less → order S e g ≡ less
+
+  pub record Families : Type 0 where
+    pub of-children : (f : E) → Sound f → S .level f < S .highest → family S (childrenOf f) ≡ true
+    pub only-children : (es : List E) → ((e : E) → List·Memᴰ e es → Sound e) → family S es ≡ true
+        → (f : E) × (Sound f × S .level f < S .highest × es ≡ childrenOf f)

@@ -1,0 +1,5 @@
+pub mod Anchors
+pub mod Shape
+pub mod Words
+pub mod Calls
+pub mod Laws
