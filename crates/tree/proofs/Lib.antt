@@ -1,8 +1,10 @@
+pub mod Cases
 pub mod Digits
 pub mod Anchor
 pub mod RoundTrip
 pub mod Descent
 pub mod Ordering
 pub mod Family
+pub mod Walk
 pub mod Sibling
 pub mod Call

@@ -1,0 +1,18 @@
+-- A statement about a small number, by its cases: how a table's rule is proved at every entry. Assumes nothing.
+use Prim.Native.Nat.{ℕ, zero, suc, _<_}
+use native.Mathlib.Omega.{arith}
+
+pub below-2 : (P : ℕ → Type 0) → P 0 → P 1 → (i : ℕ) → i < 2 → P i
+below-2 P p0 p1 zero small = p0
+below-2 P p0 p1 (suc zero) small = p1
+below-2 P p0 p1 (suc (suc i)) small = absurd (omega arith)
+
+pub below-3 : (P : ℕ → Type 0) → P 0 → P 1 → P 2 → (i : ℕ) → i < 3 → P i
+below-3 P p0 p1 p2 zero small = p0
+below-3 P p0 p1 p2 (suc zero) small = p1
+below-3 P p0 p1 p2 (suc (suc zero)) small = p2
+below-3 P p0 p1 p2 (suc (suc (suc i))) small = absurd (omega arith)
+
+pub below-4 : (P : ℕ → Type 0) → P 0 → P 1 → P 2 → P 3 → (i : ℕ) → i < 4 → P i
+below-4 P p0 p1 p2 p3 zero small = p0
+below-4 P p0 p1 p2 p3 (suc i) small = below-3 (λ (k : ℕ). P (suc k)) p1 p2 p3 i (omega arith)

@@ -1,0 +1,5 @@
+pub mod Tables
+pub mod Laws
+pub mod Units
+pub mod Across
+pub mod Loops

@@ -1,0 +1,33 @@
+-- `Triangle::first_descendant` meets its contract: each way out is one case of the call. Assumes nothing.
+use mathlib.Core.Path.{ap, _∙_, sym}
+use borrow.Author.Needs.{needs}
+use Rattle.paper.specs.Outcome.{accepted}
+use Rattle.tree.specs.Words.{first}
+use Rattle.tree.proofs.Call.{faulty, descendant-refused-1, descendant-refused-6, descendant-accepted}
+use Rattle.triangle.specs.Elements.{triangle, triangleTo}
+use Rattle.triangle.proofs.Laws.{known}
+use Rattle.triangle.proofs.Units.{first-closed}
+use Rattle.triangle.proofs.Triangle.first_descendant.Statement.{statement}
+use Rattle.triangle.proofs.Triangle.first_descendant.Tie as tie
+
+fault-requires : tie.Need-fault-requires
+fault-requires c κs = search needs
+
+returns : tie.Need-returns
+unfolding triangleTo
+returns c = faulty triangle (c .before .fault .result) (c .before .before .args .self) _ (c .before .fault .ensures) (c .if1 .taken)
+
+returns-2 : tie.Need-returns-2
+unfolding triangleTo
+returns-2 c = sym (descendant-refused-1 triangle (c .before .before .before .args .self) (sym (c .before .before .fault .ensures) ∙ c .before .if1 .left) (first triangle) (c .before .before .before .args .level) (c .if2 .taken))
+
+returns-3 : tie.Need-returns-3
+unfolding triangleTo
+returns-3 c = sym (descendant-refused-6 triangle (c .before .before .before .before .before .args .self) (sym (c .before .before .before .before .fault .ensures) ∙ c .before .before .before .if1 .left) (first triangle) (c .before .before .before .before .before .args .level) (c .before .before .if2 .left) (c .if3 .taken))
+
+returns-4 : tie.Need-returns-4
+unfolding triangleTo
+returns-4 c = ap accepted (sym (first-closed 21 (c .before .before .before .before .before .args .self) (c .before .before .before .before .before .args .level) (known 21 (c .before .before .before .before .before .args .self) (sym (c .before .before .before .before .fault .ensures) ∙ c .before .before .before .if1 .left) .typed) (c .if3 .left))) ∙ sym (descendant-accepted triangle (c .before .before .before .before .before .args .self) (sym (c .before .before .before .before .fault .ensures) ∙ c .before .before .before .if1 .left) (first triangle) (c .before .before .before .before .before .args .level) (c .before .before .if2 .left) (c .if3 .left))
+
+pub first-descendant-spec : {M : Type 1} → statement M
+first-descendant-spec = tie.close (tie.spec fault-requires returns returns-2 returns-3 returns-4)

@@ -1,0 +1,121 @@
+-- `Triangle::rank` meets its contract: each way out is one case of the call. Assumes nothing.
+use mathlib.Core.Path.{subst⁻¹}
+use Prim.Native.Nat.{_-_, ℕ, suc, _+_, _*_, _/_, _^_, _≤_}
+use native.Mathlib.Omega.{arith}
+use lib.Pow.{pow-mono}
+use Rattle.tree.specs.Words.{positionAt}
+use Rattle.tree.specs.Anchors.{side}
+use Rattle.tree.proofs.Walk.{digit-shifted, sum-below}
+use Rattle.triangle.specs.Elements.{triangle, triangleTo}
+use Rattle.triangle.proofs.Laws.{known}
+use Rattle.triangle.proofs.Units.{unit}
+use Rattle.triangle.proofs.Loops.{Climbed, climb-start, climb-digit, climb-again, climb-end}
+use Rattle.triangle.proofs.Triangle.rank.Statement.{statement}
+use Rattle.triangle.proofs.Triangle.rank.Tie as tie
+
+abbrev Inv-loop : tie.InvT-loop
+Inv-loop level s x₀ y₀ kind₀ sum₀ i₀ x y kind sum i = Climbed (positionAt triangle level (unit 21 level x₀ y₀ kind₀)) level sum i x y kind
+
+abbrev μ-loop : tie.MeasureT-loop
+μ-loop level s x₀ y₀ kind₀ sum₀ i₀ x y kind sum i = level - i
+
+sub-s : tie.Need-sub-s Inv-loop μ-loop
+unfolding triangleTo
+sub-s c = known 21 (c .args .self) (c .pre) .shallow
+
+cast-x : tie.Need-cast-x Inv-loop μ-loop
+unfolding triangleTo
+cast-x c = omega (arith, known 21 (c .args .self) (c .pre) .shallow)
+
+shr-x : tie.Need-shr-x Inv-loop μ-loop
+unfolding triangleTo
+shr-x c = omega (arith, known 21 (c .before .args .self) (c .before .pre) .shallow)
+
+cast-y : tie.Need-cast-y Inv-loop μ-loop
+unfolding triangleTo
+cast-y c = omega (arith, known 21 (c .before .args .self) (c .before .pre) .shallow)
+
+shr-y : tie.Need-shr-y Inv-loop μ-loop
+unfolding triangleTo
+shr-y c = omega (arith, known 21 (c .before .before .args .self) (c .before .before .pre) .shallow)
+
+loop-holds : tie.Need-loop-holds Inv-loop μ-loop
+unfolding triangleTo
+loop-holds c = climb-start (c .before .before .args .self .level) (c .before .before .args .self .x / side 21 (c .before .before .args .self .level)) (c .before .before .args .self .y / side 21 (c .before .before .args .self .level)) (c .before .before .args .self .kind) (known 21 (c .before .before .args .self) (c .before .before .pre) .typed)
+
+place-of-requires : tie.Need-place-of-requires Inv-loop μ-loop
+unfolding triangleTo
+place-of-requires c κs = tt
+
+cast-sum : tie.Need-cast-sum Inv-loop μ-loop
+unfolding triangleTo
+cast-sum c =
+    let shallow = known 21 (c .before .before .before .before .before .before .args .self) (c .before .before .before .before .before .before .pre) .shallow in
+    let digit = climb-digit (positionAt triangle (c .before .before .before .before .before .before .args .self .level) (unit 21 (c .before .before .before .before .before .before .args .self .level) (c .before .before .before .before .before .before .args .self .x / side 21 (c .before .before .before .before .before .before .args .self .level)) (c .before .before .before .before .before .before .args .self .y / side 21 (c .before .before .before .before .before .before .args .self .level)) (c .before .before .before .before .before .before .args .self .kind))) (c .before .before .before .before .before .before .args .self .level) (c .before .before .before .loop .sum) (c .before .before .before .loop .i) (c .before .before .before .loop .x) (c .before .before .before .loop .y) (c .before .before .before .loop .kind) (c .before .before .before .loop .inv) (known 21 (c .before .before .before .before .before .before .args .self) (c .before .before .before .before .before .before .pre) .shallow) (c .before .place-of .result) (c .before .place-of .ensures .0) (c .before .place-of .ensures .1) in
+    omega arith
+
+mul-sum : tie.Need-mul-sum Inv-loop μ-loop
+unfolding triangleTo
+mul-sum c = omega (arith, known 21 (c .before .before .before .before .before .before .args .self) (c .before .before .before .before .before .before .pre) .shallow)
+
+cast-sum-2 : tie.Need-cast-sum-2 Inv-loop μ-loop
+unfolding triangleTo
+cast-sum-2 c = omega (arith, known 21 (c .before .before .before .before .before .before .args .self) (c .before .before .before .before .before .before .pre) .shallow)
+
+shl-sum : tie.Need-shl-sum Inv-loop μ-loop
+unfolding triangleTo
+shl-sum c = omega (arith, known 21 (c .before .before .before .before .before .before .args .self) (c .before .before .before .before .before .before .pre) .shallow)
+
+add-sum : tie.Need-add-sum Inv-loop μ-loop
+unfolding triangleTo
+add-sum c =
+    let shallow = known 21 (c .before .before .before .before .before .before .args .self) (c .before .before .before .before .before .before .pre) .shallow in
+    let digit = climb-digit (positionAt triangle (c .before .before .before .before .before .before .args .self .level) (unit 21 (c .before .before .before .before .before .before .args .self .level) (c .before .before .before .before .before .before .args .self .x / side 21 (c .before .before .before .before .before .before .args .self .level)) (c .before .before .before .before .before .before .args .self .y / side 21 (c .before .before .before .before .before .before .args .self .level)) (c .before .before .before .before .before .before .args .self .kind))) (c .before .before .before .before .before .before .args .self .level) (c .before .before .before .loop .sum) (c .before .before .before .loop .i) (c .before .before .before .loop .x) (c .before .before .before .loop .y) (c .before .before .before .loop .kind) (c .before .before .before .loop .inv) (known 21 (c .before .before .before .before .before .before .args .self) (c .before .before .before .before .before .before .pre) .shallow) (c .before .place-of .result) (c .before .place-of .ensures .0) (c .before .place-of .ensures .1) in
+    let shifted = digit-shifted 2 (c .before .place-of .result .number) (c .before .before .before .loop .i) digit (omega arith) in
+    let sum = sum-below 2 (c .before .before .before .loop .sum) (c .before .place-of .result .number) (c .before .before .before .loop .i) (c .before .before .before .loop .inv .low) digit in
+    let fits : 2 ^ (2 * suc (c .before .before .before .loop .i)) ≤ 2 ^ 63 = pow-mono {i = 2 * suc (c .before .before .before .loop .i)} {j = 63} (omega arith) in
+    omega arith
+
+add-i : tie.Need-add-i Inv-loop μ-loop
+unfolding triangleTo
+add-i c = omega (arith, known 21 (c .before .before .before .before .before .before .args .self) (c .before .before .before .before .before .before .pre) .shallow)
+
+loop-less : tie.Need-loop-less Inv-loop μ-loop
+unfolding triangleTo
+loop-less c = omega arith
+
+loop-again : tie.Need-loop-again Inv-loop μ-loop
+unfolding triangleTo
+loop-again c =
+    let shallow = known 21 (c .before .before .before .before .before .before .args .self) (c .before .before .before .before .before .before .pre) .shallow in
+    let digit = climb-digit (positionAt triangle (c .before .before .before .before .before .before .args .self .level) (unit 21 (c .before .before .before .before .before .before .args .self .level) (c .before .before .before .before .before .before .args .self .x / side 21 (c .before .before .before .before .before .before .args .self .level)) (c .before .before .before .before .before .before .args .self .y / side 21 (c .before .before .before .before .before .before .args .self .level)) (c .before .before .before .before .before .before .args .self .kind))) (c .before .before .before .before .before .before .args .self .level) (c .before .before .before .loop .sum) (c .before .before .before .loop .i) (c .before .before .before .loop .x) (c .before .before .before .loop .y) (c .before .before .before .loop .kind) (c .before .before .before .loop .inv) (known 21 (c .before .before .before .before .before .before .args .self) (c .before .before .before .before .before .before .pre) .shallow) (c .before .place-of .result) (c .before .place-of .ensures .0) (c .before .place-of .ensures .1) in
+    let shifted = digit-shifted 2 (c .before .place-of .result .number) (c .before .before .before .loop .i) digit (omega arith) in
+    subst⁻¹ (λ (m : ℕ). Climbed (positionAt triangle (c .before .before .before .before .before .before .args .self .level) (unit 21 (c .before .before .before .before .before .before .args .self .level) (c .before .before .before .before .before .before .args .self .x / side 21 (c .before .before .before .before .before .before .args .self .level)) (c .before .before .before .before .before .before .args .self .y / side 21 (c .before .before .before .before .before .before .args .self .level)) (c .before .before .before .before .before .before .args .self .kind))) (c .before .before .before .before .before .before .args .self .level) (c .before .before .before .loop .sum + m) (c .before .before .before .loop .i + 1) (c .before .before .before .loop .x / 2) (c .before .before .before .loop .y / 2) (c .before .place-of .result .kind)) shifted
+    (climb-again (positionAt triangle (c .before .before .before .before .before .before .args .self .level) (unit 21 (c .before .before .before .before .before .before .args .self .level) (c .before .before .before .before .before .before .args .self .x / side 21 (c .before .before .before .before .before .before .args .self .level)) (c .before .before .before .before .before .before .args .self .y / side 21 (c .before .before .before .before .before .before .args .self .level)) (c .before .before .before .before .before .before .args .self .kind))) (c .before .before .before .before .before .before .args .self .level) (c .before .before .before .loop .sum) (c .before .before .before .loop .i) (c .before .before .before .loop .x) (c .before .before .before .loop .y) (c .before .before .before .loop .kind) (c .before .before .before .loop .inv) (known 21 (c .before .before .before .before .before .before .args .self) (c .before .before .before .before .before .before .pre) .shallow) (c .before .place-of .result) (c .before .place-of .ensures .0) (c .before .place-of .ensures .1) (c .before .before .loop-test .taken))
+
+returns : tie.Need-returns Inv-loop μ-loop
+unfolding triangleTo
+returns c = climb-end (c .before .before .before .before .args .self) (c .before .loop .sum) (c .before .loop .i) (c .before .loop .x) (c .before .loop .y) (c .before .loop .kind) (known 21 (c .before .before .before .before .args .self) (c .before .before .before .before .pre)) (c .before .loop .inv) (c .loop-test .left)
+
+pub rank-spec : {M : Type 1} → statement M
+rank-spec =
+    tie.close
+    (tie.spec
+    Inv-loop
+    μ-loop
+    sub-s
+    cast-x
+    shr-x
+    cast-y
+    shr-y
+    loop-holds
+    place-of-requires
+    cast-sum
+    mul-sum
+    cast-sum-2
+    shl-sum
+    add-sum
+    add-i
+    loop-less
+    loop-again
+    returns)

@@ -1,0 +1,90 @@
+-- `Triangle::successor` meets its contract: each way out is one case of the call. Assumes nothing.
+use mathlib.Core.Path.{ap, _∙_, sym}
+use Prim.Native.Nat.{ℕ, _+_, _^_, _≤_}
+use native.Mathlib.Omega.{arith}
+use native.Mathlib.Nat.{pow-le-pow-right}
+use lib.Dec.{lit<}
+use borrow.Author.Needs.{needs}
+use Rattle.paper.specs.Outcome.{accepted}
+use Rattle.tree.specs.Words.{last, at}
+use Rattle.tree.proofs.RoundTrip.{position-lt}
+use Rattle.tree.proofs.Digits.{shifted-power}
+use Rattle.tree.proofs.Call.{faulty, successor-refused-9, successor-accepted}
+use Rattle.triangle.specs.Elements.{triangle, triangleTo}
+use Rattle.triangle.proofs.Laws.{known, lawful}
+use Rattle.triangle.proofs.Triangle.successor.Statement.{statement}
+use Rattle.triangle.proofs.Triangle.successor.Tie as tie
+
+fault-requires : tie.Need-fault-requires
+fault-requires c κs = search needs
+
+returns : tie.Need-returns
+unfolding triangleTo
+returns c = faulty triangle (c .before .fault .result) (c .before .before .args .self) _ (c .before .fault .ensures) (c .if1 .taken)
+
+rank-requires : tie.Need-rank-requires
+unfolding triangleTo
+rank-requires c κs = (sym (c .before .fault .ensures) ∙ c .if1 .left)
+
+add-next : tie.Need-add-next
+unfolding triangleTo
+add-next c =
+    let shallow = known 21 (c .before .before .before .args .self) (sym (c .before .before .fault .ensures) ∙ c .before .if1 .left) .shallow in
+    let last = position-lt triangle (lawful 21) (c .before .before .before .args .self) (sym (c .before .before .fault .ensures) ∙ c .before .if1 .left) in
+    let small : 4 ^ c .before .before .before .args .self .level ≤ 4 ^ 21 = pow-le-pow-right {n = 4} (lit< tt) {i = c .before .before .before .args .self .level} {j = 21} shallow in
+    omega (arith, c .rank .ensures)
+
+mul-if2 : tie.Need-mul-if2
+unfolding triangleTo
+mul-if2 c =
+    let shallow = known 21 (c .before .before .before .args .self) (sym (c .before .before .fault .ensures) ∙ c .before .if1 .left) .shallow in
+    omega arith
+
+cast-if2 : tie.Need-cast-if2
+unfolding triangleTo
+cast-if2 c =
+    let shallow = known 21 (c .before .before .before .args .self) (sym (c .before .before .fault .ensures) ∙ c .before .if1 .left) .shallow in
+    omega arith
+
+shl-if2 : tie.Need-shl-if2
+unfolding triangleTo
+shl-if2 c =
+    let shallow = known 21 (c .before .before .before .args .self) (sym (c .before .before .fault .ensures) ∙ c .before .if1 .left) .shallow in
+    omega arith
+
+returns-2 : tie.Need-returns-2
+unfolding triangleTo
+returns-2 c =
+    let shallow = known 21 (c .before .before .before .before .args .self) (sym (c .before .before .before .fault .ensures) ∙ c .before .before .if1 .left) .shallow in
+    sym (successor-refused-9 triangle (c .before .before .before .before .args .self) (sym (c .before .before .before .fault .ensures) ∙ c .before .before .if1 .left) (ap (λ (k : ℕ). k + 1) (sym (c .before .rank .ensures)) ∙ c .if2 .taken ∙ shifted-power 2 (c .before .before .before .before .args .self .level) (omega arith)))
+
+placed-requires : tie.Need-placed-requires
+unfolding triangleTo
+placed-requires c κs =
+    let shallow = known 21 (c .before .before .before .before .args .self) (sym (c .before .before .before .fault .ensures) ∙ c .before .before .if1 .left) .shallow in
+    let last = position-lt triangle (lawful 21) (c .before .before .before .before .args .self) (sym (c .before .before .before .fault .ensures) ∙ c .before .before .if1 .left) in
+    let small : 4 ^ c .before .before .before .before .args .self .level ≤ 4 ^ 21 = pow-le-pow-right {n = 4} (lit< tt) {i = c .before .before .before .before .args .self .level} {j = 21} shallow in
+    let other = c .if2 .left in
+    (shallow, omega (arith, c .before .rank .ensures, shifted-power 2 (c .before .before .before .before .args .self .level) (omega arith)))
+
+returns-3 : tie.Need-returns-3
+unfolding triangleTo
+returns-3 c =
+    let shallow = known 21 (c .before .before .before .before .before .args .self) (sym (c .before .before .before .before .fault .ensures) ∙ c .before .before .before .if1 .left) .shallow in
+    ap accepted (c .placed .ensures ∙ ap (λ (k : ℕ). at triangle (c .before .before .before .before .before .args .self .level) (k + 1)) (c .before .before .rank .ensures))
+    ∙ sym (successor-accepted triangle (c .before .before .before .before .before .args .self) (sym (c .before .before .before .before .fault .ensures) ∙ c .before .before .before .if1 .left) (λ end. c .before .if2 .left (ap (λ (k : ℕ). k + 1) (c .before .before .rank .ensures) ∙ end ∙ sym (shifted-power 2 (c .before .before .before .before .before .args .self .level) (omega arith)))))
+
+pub successor-spec : {M : Type 1} → statement M
+successor-spec =
+    tie.close
+    (tie.spec
+    fault-requires
+    returns
+    rank-requires
+    add-next
+    mul-if2
+    cast-if2
+    shl-if2
+    returns-2
+    placed-requires
+    returns-3)

@@ -1,0 +1,122 @@
+-- `triangle::placed` meets its contract: the loop goes down by one digit a turn. Assumes nothing.
+use Prim.Native.Nat.{_-_, _*_, _/_, _^_, _≤_}
+use native.Mathlib.Omega.{arith}
+use native.Mathlib.Nat.{mod-lt}
+use lib.Pow.{pow-mono}
+use lib.Dec.{lit<}
+use Rattle.tree.specs.Words.{position}
+use Rattle.triangle.proofs.Loops.{Reached, start, small, again, end}
+use Rattle.triangle.proofs.placed.Statement.{statement}
+use Rattle.triangle.proofs.placed.Tie as tie
+
+abbrev Inv-loop : tie.InvT-loop
+Inv-loop level position x₀ y₀ kind₀ left₀ x y kind left = Reached level position left x y kind
+
+abbrev μ-loop : tie.MeasureT-loop
+μ-loop level position x₀ y₀ kind₀ left₀ x y kind left = left
+
+loop-holds : tie.Need-loop-holds Inv-loop μ-loop
+loop-holds c = start (c .args .level) (c .args .position) (c .pre .0)
+
+sub-left : tie.Need-sub-left Inv-loop μ-loop
+sub-left c = omega arith
+
+mul-child-row : tie.Need-mul-child-row Inv-loop μ-loop
+mul-child-row c = omega (arith, c .before .loop .inv .fewer)
+
+cast-child-row : tie.Need-cast-child-row Inv-loop μ-loop
+cast-child-row c = omega (arith, c .before .loop .inv .fewer)
+
+shr-child-row : tie.Need-shr-child-row Inv-loop μ-loop
+shr-child-row c = omega (arith, c .before .loop .inv .fewer)
+
+cast-child-row-2 : tie.Need-cast-child-row-2 Inv-loop μ-loop
+cast-child-row-2 c = omega (arith, mod-lt (c .before .before .args .position / 2 ^ (2 * (c .before .loop .left - 1))) {m = 4} (lit< tt))
+
+child-row-requires : tie.Need-child-row-requires Inv-loop μ-loop
+child-row-requires c κs = tt
+
+mul-x : tie.Need-mul-x Inv-loop μ-loop
+mul-x c = let room : 2 ^ (c .before .before .before .args .level - c .before .before .loop .left) ≤ 2 ^ 21 = pow-mono {i = c .before .before .before .args .level - c .before .before .loop .left} {j = 21} (omega (arith, c .before .before .before .pre .0)) in omega (arith, c .before .before .loop .inv .wide)
+
+cast-x : tie.Need-cast-x Inv-loop μ-loop
+cast-x c =
+    let bits = small (c .before .before .before .before .args .level) (c .before .before .before .before .args .position) (c .before .before .before .before .pre .0) (c .before .before .before .loop .left) (c .before .before .before .loop .x) (c .before .before .before .loop .y) (c .before .before .before .loop .kind) (c .before .before .before .loop .inv) (c .before .child-row .result) (c .before .child-row .ensures) in
+    let room : 2 ^ (c .before .before .before .before .args .level - c .before .before .before .loop .left) ≤ 2 ^ 21 = pow-mono {i = c .before .before .before .before .args .level - c .before .before .before .loop .left} {j = 21} (omega (arith, c .before .before .before .before .pre .0)) in
+    omega (arith, bits .0)
+
+add-x : tie.Need-add-x Inv-loop μ-loop
+add-x c =
+    let bits = small (c .before .before .before .before .args .level) (c .before .before .before .before .args .position) (c .before .before .before .before .pre .0) (c .before .before .before .loop .left) (c .before .before .before .loop .x) (c .before .before .before .loop .y) (c .before .before .before .loop .kind) (c .before .before .before .loop .inv) (c .before .child-row .result) (c .before .child-row .ensures) in
+    let room : 2 ^ (c .before .before .before .before .args .level - c .before .before .before .loop .left) ≤ 2 ^ 21 = pow-mono {i = c .before .before .before .before .args .level - c .before .before .before .loop .left} {j = 21} (omega (arith, c .before .before .before .before .pre .0)) in
+    omega (arith, bits .0, c .before .before .before .loop .inv .wide)
+
+mul-y : tie.Need-mul-y Inv-loop μ-loop
+mul-y c =
+    let bits = small (c .before .before .before .before .args .level) (c .before .before .before .before .args .position) (c .before .before .before .before .pre .0) (c .before .before .before .loop .left) (c .before .before .before .loop .x) (c .before .before .before .loop .y) (c .before .before .before .loop .kind) (c .before .before .before .loop .inv) (c .before .child-row .result) (c .before .child-row .ensures) in
+    let room : 2 ^ (c .before .before .before .before .args .level - c .before .before .before .loop .left) ≤ 2 ^ 21 = pow-mono {i = c .before .before .before .before .args .level - c .before .before .before .loop .left} {j = 21} (omega (arith, c .before .before .before .before .pre .0)) in
+    omega (arith, c .before .before .before .loop .inv .deep)
+
+cast-y : tie.Need-cast-y Inv-loop μ-loop
+cast-y c =
+    let bits = small (c .before .before .before .before .before .args .level) (c .before .before .before .before .before .args .position) (c .before .before .before .before .before .pre .0) (c .before .before .before .before .loop .left) (c .before .before .before .before .loop .x) (c .before .before .before .before .loop .y) (c .before .before .before .before .loop .kind) (c .before .before .before .before .loop .inv) (c .before .before .child-row .result) (c .before .before .child-row .ensures) in
+    let room : 2 ^ (c .before .before .before .before .before .args .level - c .before .before .before .before .loop .left) ≤ 2 ^ 21 = pow-mono {i = c .before .before .before .before .before .args .level - c .before .before .before .before .loop .left} {j = 21} (omega (arith, c .before .before .before .before .before .pre .0)) in
+    omega (arith, bits .1 .0)
+
+add-y : tie.Need-add-y Inv-loop μ-loop
+add-y c =
+    let bits = small (c .before .before .before .before .before .args .level) (c .before .before .before .before .before .args .position) (c .before .before .before .before .before .pre .0) (c .before .before .before .before .loop .left) (c .before .before .before .before .loop .x) (c .before .before .before .before .loop .y) (c .before .before .before .before .loop .kind) (c .before .before .before .before .loop .inv) (c .before .before .child-row .result) (c .before .before .child-row .ensures) in
+    let room : 2 ^ (c .before .before .before .before .before .args .level - c .before .before .before .before .loop .left) ≤ 2 ^ 21 = pow-mono {i = c .before .before .before .before .before .args .level - c .before .before .before .before .loop .left} {j = 21} (omega (arith, c .before .before .before .before .before .pre .0)) in
+    omega (arith, bits .1 .0, c .before .before .before .before .loop .inv .deep)
+
+loop-less : tie.Need-loop-less Inv-loop μ-loop
+loop-less c = omega arith
+
+loop-again : tie.Need-loop-again Inv-loop μ-loop
+loop-again c = again (c .before .before .before .before .before .args .level) (c .before .before .before .before .before .args .position) (c .before .before .before .before .before .pre .0) (c .before .before .before .before .loop .left) (c .before .before .before .before .loop .x) (c .before .before .before .before .loop .y) (c .before .before .before .before .loop .kind) (c .before .before .before .before .loop .inv) (c .before .before .before .loop-test .taken) (c .before .before .child-row .result) (c .before .before .child-row .ensures)
+
+sub-s : tie.Need-sub-s Inv-loop μ-loop
+sub-s c = c .before .before .pre .0
+
+cast-t17 : tie.Need-cast-t17 Inv-loop μ-loop
+cast-t17 c = omega arith
+
+shl-t18 : tie.Need-shl-t18 Inv-loop μ-loop
+shl-t18 c = omega arith
+
+cast-t19 : tie.Need-cast-t19 Inv-loop μ-loop
+cast-t19 c = omega arith
+
+shl-t20 : tie.Need-shl-t20 Inv-loop μ-loop
+shl-t20 c = omega arith
+
+returns : tie.Need-returns Inv-loop μ-loop
+returns c = end (c .before .before .args .level) (c .before .before .args .position) (c .before .before .pre .0) (c .before .loop .left) (c .before .loop .x) (c .before .loop .y) (c .before .loop .kind) (c .before .loop .inv) (c .loop-test .left)
+
+pub placed-spec : {M : Type 1} → statement M
+placed-spec =
+    tie.close
+    (tie.spec
+    Inv-loop
+    μ-loop
+    loop-holds
+    sub-left
+    mul-child-row
+    cast-child-row
+    shr-child-row
+    cast-child-row-2
+    child-row-requires
+    mul-x
+    cast-x
+    add-x
+    mul-y
+    cast-y
+    add-y
+    loop-less
+    loop-again
+    sub-s
+    cast-t17
+    shl-t18
+    cast-t19
+    shl-t20
+    returns)

@@ -1,0 +1,66 @@
+-- `place_of` reads the child rows the other way round: eight entries, computed. Assumes nothing.
+use mathlib.Core.Path.{_≡_, refl}
+use mathlib.Core.List.{[], _∷_}
+use Prim.Native.Nat.{ℕ, _+_, _*_, _%_}
+use native.Mathlib.Nat.{mod-lt}
+use lib.Dec.{lit<}
+use lib.ListN.{getD}
+use borrow.Author.Needs.{needs}
+use Rattle.triangle.specs.Rows.{step, parentKind, numberOf}
+use Rattle.triangle.proofs.Tables.{each-step}
+use Rattle.triangle.proofs.rows.place_of.Statement.{statement}
+use Rattle.triangle.proofs.rows.place_of.Tie as tie
+
+cast-t : tie.Need-cast-t
+cast-t c = search needs
+
+mul-i : tie.Need-mul-i
+mul-i c = search needs
+
+add-i : tie.Need-add-i
+add-i c = search needs
+
+cast-i : tie.Need-cast-i
+cast-i c = search needs
+
+mul-t14 : tie.Need-mul-t14
+mul-t14 c = search needs
+
+index-1-t6 : tie.Need-index-1-t6
+index-1-t6 c = search needs
+
+index-2-t6 : tie.Need-index-2-t6
+index-2-t6 c = search needs
+
+mul-t22 : tie.Need-mul-t22
+mul-t22 c = search needs
+
+index-1-t27 : tie.Need-index-1-t27
+index-1-t27 c = search needs
+
+index-2-t27 : tie.Need-index-2-t27
+index-2-t27 c = search needs
+
+returns : tie.Need-returns
+unfolding parentKind numberOf
+returns c =
+    each-step
+    (λ (x y t : ℕ). (getD (getD ((0 ∷ 1 ∷ 0 ∷ 0 ∷ []) ∷ (1 ∷ 1 ∷ 0 ∷ 1 ∷ []) ∷ []) t []) (2 * x + y) 0 ≡ parentKind (step x y t)) × (getD (getD ((0 ∷ 1 ∷ 1 ∷ 3 ∷ []) ∷ (0 ∷ 2 ∷ 2 ∷ 3 ∷ []) ∷ []) t []) (2 * x + y) 0 ≡ numberOf (step x y t)))
+    (refl, refl) (refl, refl) (refl, refl) (refl, refl) (refl, refl) (refl, refl) (refl, refl) (refl, refl)
+    (c .before .before .args .x % 2) (c .before .before .args .y % 2) (c .before .before .args .kind % 2) (mod-lt (c .before .before .args .x) (lit< tt)) (mod-lt (c .before .before .args .y) (lit< tt)) (mod-lt (c .before .before .args .kind) (lit< tt))
+
+pub place-of-spec : {M : Type 1} → statement M
+place-of-spec =
+    tie.close
+    (tie.spec
+    cast-t
+    mul-i
+    add-i
+    cast-i
+    mul-t14
+    index-1-t6
+    index-2-t6
+    mul-t22
+    index-1-t27
+    index-2-t27
+    returns)

@@ -1,0 +1,129 @@
+-- Document 01, "Elements": triangles. L is the highest level; the field `kind` is the type. Definitions only.
+--
+--   "The root is type 0. Inside the root means y <= x for type 0 and y < x for type 1"
+--   "children .. 4 ..; faces .. 3": 1 level above the highest, 2 anchor 2^21 or more, or no multiple of h, 3 type above 1,
+--   4 outside the root
+--
+--   triangleTo L   triangles as a shape, highest level L
+--   triangle       "highest level 21 for all three"
+--   elementOf      the outcome that a TriangleAnswer stands for
+--   equalColumns   whether the four lent columns are equally long
+--   Equal          that they are
+--   element i      entry i of them
+--   elements       all of them
+--
+-- Assumes nothing.
+use mathlib.Core.Path.{_≡_}
+use mathlib.Core.Bool.{Bool, not, _&&_, _||_}
+use mathlib.Core.List.{List}
+use Prim.Native.Nat.{ℕ, zero, suc, _+_, _-_, _*_, _^_}
+use lib.Dec.{leb, ltb, eqb}
+use lib.ListN.{length, getD}
+use Rattle.paper.specs.Outcome.{Outcome, accepted, refused, refuse-when, fault-when, rows}
+use Rattle.tree.specs.Shape.{Shape}
+use Rattle.tree.specs.Anchors.{side, offGrid, rounded, bitAt}
+use Rattle.triangle.specs.declared.rows.Step.{Step}
+use Rattle.triangle.specs.declared.Triangle.{Triangle}
+use Rattle.triangle.specs.declared.TriangleAnswer.{TriangleAnswer}
+use Rattle.triangle.specs.declared.TriangleAnswer.the-variants.{Is, Refused}
+use Rattle.triangle.specs.Rows.{step, childRow, parentKind, numberOf, faceRow}
+
+-- by type: x and y of an anchor
+abbrev pub insideRoot : ℕ → ℕ → ℕ → Bool
+insideRoot zero x y = leb y x
+insideRoot (suc t) x y = ltb y x
+
+-- one coordinate moved by s - 1 sides of length h, and whether that leaves the edge
+abbrev pub moved : ℕ → ℕ → ℕ → ℕ
+moved h s x = x + s * h - h
+
+abbrev pub leaves : ℕ → ℕ → ℕ → ℕ → Bool
+leaves L h s x = ltb (x + s * h) h || leb (2 ^ L) (moved h s x)
+
+module _ (L : ℕ) where
+  abbrev pub fault : Triangle → ℕ
+  fault e =
+      fault-when (ltb L (e .level)) 1
+      (fault-when (offGrid L (e .level) (e .x) || offGrid L (e .level) (e .y)) 2
+      (fault-when (ltb 1 (e .kind)) 3
+      (fault-when (not (insideRoot (e .kind) (e .x) (e .y))) 4 0)))
+
+  -- the element that is the given step away from the anchor of e, a side of the next level each
+  abbrev pub stepped : Triangle → Step → Triangle
+  stepped e s =
+      record {
+        x = e .x + s .x * side L (suc (e .level));
+        y = e .y + s .y * side L (suc (e .level));
+        level = suc (e .level);
+        kind = s .kind;
+      }
+
+  abbrev pub child : Triangle → ℕ → Triangle
+  child e i = stepped e (childRow (e .kind) i)
+
+  -- the step that leads to e from its parent's anchor
+  abbrev pub stepTo : Triangle → Step
+  stepTo e = step (bitAt L (e .level) (e .x)) (bitAt L (e .level) (e .y)) (e .kind)
+
+  abbrev pub parent : Triangle → Triangle
+  parent e =
+      record {
+        x = rounded L (e .level - 1) (e .x);
+        y = rounded L (e .level - 1) (e .y);
+        level = e .level - 1;
+        kind = parentKind (stepTo e);
+      }
+
+  abbrev pub number : Triangle → ℕ
+  number e = numberOf (stepTo e)
+
+  -- the element across a face, as the face's row says, or refused where that lies outside the root
+  abbrev pub acrossBy : Triangle → Step → Outcome Triangle
+  acrossBy e s =
+      let h = side L (e .level) in
+      let x = moved h (s .x) (e .x) in
+      let y = moved h (s .y) (e .y) in
+      refuse-when (leaves L h (s .x) (e .x) || (leaves L h (s .y) (e .y) || not (insideRoot (s .kind) x y))) 10
+      (accepted (record { x = x; y = y; level = e .level; kind = s .kind }))
+
+  abbrev pub neighbour : Triangle → ℕ → Outcome Triangle
+  neighbour e i = acrossBy e (faceRow (e .kind) i)
+
+  unfoldable pub triangleTo : Shape Triangle
+  triangleTo =
+      record {
+        children = 4;
+        faces = 3;
+        highest = L;
+        level = λ e. e .level;
+        fault = fault;
+        root = record { x = 0; y = 0; level = 0; kind = 0 };
+        child = child;
+        parent = parent;
+        number = number;
+        neighbour = neighbour;
+        same = λ e f. eqb (e .x) (f .x) && (eqb (e .y) (f .y) && (eqb (e .level) (f .level) && eqb (e .kind) (f .kind)));
+      }
+
+abbrev pub triangle : Shape Triangle
+triangle = triangleTo 21
+
+abbrev pub elementOf : TriangleAnswer → Outcome Triangle
+elementOf (Is e) = accepted e
+elementOf (Refused number place) = refused number place
+
+abbrev pub equalColumns : List ℕ → List ℕ → List ℕ → List ℕ → Bool
+equalColumns levels xs ys kinds =
+    eqb (length levels) (length xs) && (eqb (length levels) (length ys) && eqb (length levels) (length kinds))
+
+-- the same as facts
+pub record Equal (levels xs ys kinds : List ℕ) : Type 0 where
+  pub with-xs : length levels ≡ length xs
+  pub with-ys : length levels ≡ length ys
+  pub with-kinds : length levels ≡ length kinds
+
+abbrev pub element : List ℕ → List ℕ → List ℕ → List ℕ → ℕ → Triangle
+element levels xs ys kinds i = record { x = getD xs i 0; y = getD ys i 0; level = getD levels i 0; kind = getD kinds i 0 }
+
+abbrev pub elements : List ℕ → List ℕ → List ℕ → List ℕ → List Triangle
+elements levels xs ys kinds = rows (element levels xs ys kinds) 0 (length levels)
