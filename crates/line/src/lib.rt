@@ -1,18 +1,18 @@
 // Lines: the upright part of a prism. Each contract is one of the ten calls of `tree`, at this shape; `specs/Elements.antt` says
 // what a line is.
 use paper::FamilyAnswer;
-use paper::Fault;
 use paper::OrderAnswer;
 use paper::PositionAnswer;
 ghost use mathlib.Core.Path.{_≡_};
-ghost use Prim.Native.Nat.{_^_, _≤_, _<_};
+ghost use Prim.Native.Nat.{_<_};
 ghost use lib.Dec.{eqb};
 ghost use lib.ListN.{length};
-ghost use Rattle.paper.specs.Outcome.{checks, passed};
-ghost use Rattle.paper.specs.Readings.{positionOf, familyOf, orderOf, checksOf};
-ghost use Rattle.tree.specs.Words;
+ghost use Rattle.paper.specs.Readings.{positionOf, familyOf, orderOf};
 ghost use Rattle.tree.specs.Calls;
-ghost use Rattle.line.specs.Elements.{line, elementOf, element, elements};
+ghost use Rattle.line.specs.Elements.{line, elementOf, elements};
+
+mod family;
+mod work;
 
 #[repr(C)]
 pub struct Line {
@@ -43,7 +43,7 @@ impl Line {
         if 1u64 << level <= position {
             return LineAnswer::Refused(5, 0);
         }
-        LineAnswer::Is(placed(level, position))
+        LineAnswer::Is(work::placed(level, position))
     }
 
     // The position of an element. Refused: 1, 2.
@@ -101,7 +101,7 @@ impl Line {
         if next == 1u64 << level {
             return LineAnswer::Refused(9, 0);
         }
-        LineAnswer::Is(placed(level, next))
+        LineAnswer::Is(work::placed(level, next))
     }
 
     // The first descendant at a level. Refused: 1, 2, then 1, 6 for the level.
@@ -175,163 +175,10 @@ impl Line {
         if levels.len() != xs.len() {
             return FamilyAnswer::Refused(11, 0);
         }
-        let fault = first_fault(levels, xs);
+        let fault = family::first_fault(levels, xs);
         if fault.number != 0 {
             return FamilyAnswer::Refused(fault.number, fault.place);
         }
-        FamilyAnswer::Is(are_siblings(levels, xs))
+        FamilyAnswer::Is(family::are_siblings(levels, xs))
     }
-
-    // The number of the first check that the element fails, or 0.
-    fn fault(self) -> u8
-        ensures { λ r. ⌜ r ≡ line .fault self ⌝ }
-    {
-        if 21 < self.level {
-            return 1;
-        }
-        if tree::off_grid(self.level, self.x) {
-            return 2;
-        }
-        0
-    }
-
-    fn equals(self, other: Line) -> bool
-        ensures { λ r. ⌜ r ≡ line .same self other ⌝ }
-    {
-        if self.x != other.x {
-            return false;
-        }
-        self.level == other.level
-    }
-
-    fn rank(self) -> u64
-        requires { ⌜ line .fault self ≡ 0 ⌝ }
-        ensures { λ r. ⌜ r ≡ Words.position line self ⌝ }
-    {
-        (self.x >> (21 - self.level)) as u64
-    }
-
-    fn up(self) -> Line
-        requires { ⌜ (0 < self .level) × (self .level ≤ 21) ⌝ }
-        ensures { λ r. ⌜ r ≡ line .parent self ⌝ }
-    {
-        let level = self.level - 1;
-        Line {
-            x: tree::rounded(level, self.x),
-            level,
-        }
-    }
-
-    fn down(self, number: u8) -> Line
-        requires { ⌜ (line .fault self ≡ 0) × ((self .level < 21) × (number < 2)) ⌝ }
-        ensures { λ r. ⌜ r ≡ line .child self number ⌝ }
-    {
-        let level = self.level + 1;
-        Line {
-            x: self.x + (number as u32) * tree::side(level),
-            level,
-        }
-    }
-
-    fn bottom(self, level: u8) -> Line
-        requires { ⌜ (line .fault self ≡ 0) × ((self .level ≤ level) × (level ≤ 21)) ⌝ }
-        ensures { λ r. ⌜ r ≡ Words.last line self level ⌝ }
-    {
-        Line {
-            x: self.x + (tree::side(self.level) - tree::side(level)),
-            level,
-        }
-    }
-
-    fn across(self, face: u8) -> LineAnswer
-        requires { ⌜ (line .fault self ≡ 0) × (face < 2) ⌝ }
-        ensures { λ r. ⌜ elementOf r ≡ line .neighbour self face ⌝ }
-    {
-        let level = self.level;
-        let h = tree::side(level);
-        if face == 0 {
-            if self.x < h {
-                return LineAnswer::Refused(10, 0);
-            }
-            return LineAnswer::Is(Line {
-                x: self.x - h,
-                level,
-            });
-        }
-        if 2097152 <= self.x + h {
-            return LineAnswer::Refused(10, 0);
-        }
-        LineAnswer::Is(Line {
-            x: self.x + h,
-            level,
-        })
-    }
-}
-
-// The element at a position that the level has.
-fn placed(level: u8, position: u64) -> Line
-    requires { ⌜ (level ≤ 21) × (position < 2 ^ level) ⌝ }
-    ensures { λ r. ⌜ r ≡ Words.at line level position ⌝ }
-{
-    Line {
-        x: (position as u32) << (21 - level),
-        level,
-    }
-}
-
-// An element of the columns.
-fn row(levels: &[u8], xs: &[u32], i: usize) -> Line
-    requires { ⌜ (i < length (now levels)) × (length (now levels) ≡ length (now xs)) ⌝ }
-    ensures { λ r. ⌜ r ≡ element (now (levels .entry)) (now (xs .entry)) i ⌝ }
-{
-    Line {
-        x: xs[i],
-        level: levels[i],
-    }
-}
-
-// The first element that fails a check.
-fn first_fault(levels: &[u8], xs: &[u32]) -> Fault
-    requires { ⌜ length (now levels) ≡ length (now xs) ⌝ }
-    ensures { λ r. ⌜ checksOf r ≡ checks (line .fault) (elements (now (levels .entry)) (now (xs .entry))) ⌝ }
-{
-    let mut i = 0;
-    while i < levels.len() {
-        let fault = row(levels, xs, i).fault();
-        if fault != 0 {
-            return Fault {
-                number: fault,
-                place: i as u64,
-            };
-        }
-        i += 1;
-    }
-    Fault {
-        number: 0,
-        place: 0,
-    }
-}
-
-// Whether sound elements are a family: as many as a parent has children, and one after the other the children of the first
-// one's parent.
-fn are_siblings(levels: &[u8], xs: &[u32]) -> bool
-    requires { ⌜ (length (now levels) ≡ length (now xs)) × (checks (line .fault) (elements (now levels) (now xs)) ≡ passed) ⌝ }
-    ensures { λ r. ⌜ r ≡ Words.family line (elements (now (levels .entry)) (now (xs .entry))) ⌝ }
-{
-    if levels.len() != 2 {
-        return false;
-    }
-    let first = row(levels, xs, 0);
-    if first.level == 0 {
-        return false;
-    }
-    let parent = first.up();
-    let mut i = 0;
-    while i < 2 {
-        if !parent.down(i as u8).equals(row(levels, xs, i)) {
-            return false;
-        }
-        i += 1;
-    }
-    true
 }

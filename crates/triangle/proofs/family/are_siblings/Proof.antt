@@ -14,8 +14,8 @@ use Rattle.tree.proofs.Sibling.{family-count, family-flat, family-start, siblin
 use Rattle.triangle.specs.declared.Triangle.{Triangle}
 use Rattle.triangle.specs.Elements.{triangle, triangleTo, element, elements}
 use Rattle.triangle.proofs.Laws.{lawful, known}
-use Rattle.triangle.proofs.are_siblings.Statement.{statement}
-use Rattle.triangle.proofs.are_siblings.Tie as tie
+use Rattle.triangle.proofs.family.are_siblings.Statement.{statement}
+use Rattle.triangle.proofs.family.are_siblings.Tie as tie
 
 abbrev Inv-loop : tie.InvT-loop
 Inv-loop levels xs ys kinds parent i₀ i = (i ≤ 4) × (family triangle (elements levels xs ys kinds) ≡ areChildren triangle parent i (rows (element levels xs ys kinds) i (4 - i)))

@@ -9,8 +9,8 @@ use Rattle.paper.specs.Outcome.{refused, passed, checks, scan, rows}
 use Rattle.paper.proofs.Scan.{fault-taken, scan-step, scan-found, rows-done}
 use Rattle.triangle.specs.declared.Triangle.{Triangle}
 use Rattle.triangle.specs.Elements.{triangle, element, elements}
-use Rattle.triangle.proofs.first_fault.Statement.{statement}
-use Rattle.triangle.proofs.first_fault.Tie as tie
+use Rattle.triangle.proofs.family.first_fault.Statement.{statement}
+use Rattle.triangle.proofs.family.first_fault.Tie as tie
 
 abbrev Inv-loop : tie.InvT-loop
 Inv-loop levels xs ys kinds i₀ i = (i ≤ length levels) × (checks (triangle .fault) (elements levels xs ys kinds) ≡ scan (triangle .fault) i (rows (element levels xs ys kinds) i (length levels - i)) passed)

@@ -14,8 +14,8 @@ use Rattle.tree.proofs.Sibling.{family-count, family-flat, family-start, siblin
 use Rattle.line.specs.declared.Line.{Line}
 use Rattle.line.specs.Elements.{line, lineTo, element, elements}
 use Rattle.line.proofs.Laws.{lawful}
-use Rattle.line.proofs.are_siblings.Statement.{statement}
-use Rattle.line.proofs.are_siblings.Tie as tie
+use Rattle.line.proofs.family.are_siblings.Statement.{statement}
+use Rattle.line.proofs.family.are_siblings.Tie as tie
 
 abbrev Inv-loop : tie.InvT-loop
 Inv-loop levels xs parent i₀ i = (i ≤ 2) × (family line (elements levels xs) ≡ areChildren line parent i (rows (element levels xs) i (2 - i)))

@@ -9,8 +9,8 @@ use Rattle.tree.specs.Anchors.{side}
 use Rattle.tree.proofs.Anchor.{side-edge}
 use Rattle.line.proofs.Laws.{line-path}
 use Rattle.line.proofs.Closed.{at-closed}
-use Rattle.line.proofs.placed.Statement.{statement}
-use Rattle.line.proofs.placed.Tie as tie
+use Rattle.line.proofs.work.placed.Statement.{statement}
+use Rattle.line.proofs.work.placed.Tie as tie
 
 cast-t3 : tie.Need-cast-t3
 cast-t3 c = let small : 2 ^ c .args .level ≤ 2 ^ 21 = pow-mono {i = c .args .level} {j = 21} (c .pre .0) in omega arith

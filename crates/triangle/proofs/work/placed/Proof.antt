@@ -6,8 +6,8 @@ use lib.Pow.{pow-mono}
 use lib.Dec.{lit<}
 use Rattle.tree.specs.Words.{position}
 use Rattle.triangle.proofs.Loops.{Reached, start, small, again, end}
-use Rattle.triangle.proofs.placed.Statement.{statement}
-use Rattle.triangle.proofs.placed.Tie as tie
+use Rattle.triangle.proofs.work.placed.Statement.{statement}
+use Rattle.triangle.proofs.work.placed.Tie as tie
 
 abbrev Inv-loop : tie.InvT-loop
 Inv-loop level position x₀ y₀ kind₀ left₀ x y kind left = Reached level position left x y kind

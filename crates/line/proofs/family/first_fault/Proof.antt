@@ -9,8 +9,8 @@ use Rattle.paper.specs.Outcome.{refused, passed, checks, scan, rows}
 use Rattle.paper.proofs.Scan.{fault-taken, scan-step, scan-found, rows-done}
 use Rattle.line.specs.declared.Line.{Line}
 use Rattle.line.specs.Elements.{line, element, elements}
-use Rattle.line.proofs.first_fault.Statement.{statement}
-use Rattle.line.proofs.first_fault.Tie as tie
+use Rattle.line.proofs.family.first_fault.Statement.{statement}
+use Rattle.line.proofs.family.first_fault.Tie as tie
 
 abbrev Inv-loop : tie.InvT-loop
 Inv-loop levels xs i₀ i = (i ≤ length levels) × (checks (line .fault) (elements levels xs) ≡ scan (line .fault) i (rows (element levels xs) i (length levels - i)) passed)

@@ -1,0 +1,184 @@
+// What the calls do once their tests have passed. Each function asks for just what those tests have shown.
+use crate::Triangle;
+use crate::TriangleAnswer;
+use crate::outside;
+use crate::rows;
+ghost use mathlib.Core.Path.{_≡_};
+ghost use Prim.Native.Nat.{_^_, _≤_, _<_};
+ghost use Rattle.tree.specs.Words;
+ghost use Rattle.triangle.specs.Elements.{triangle, elementOf};
+
+impl Triangle {
+    // The number of the first check that the element fails, or 0.
+    pub(crate) fn fault(self) -> u8
+        ensures { λ r. ⌜ r ≡ triangle .fault self ⌝ }
+    {
+        if 21 < self.level {
+            return 1;
+        }
+        if tree::off_grid(self.level, self.x) {
+            return 2;
+        }
+        if tree::off_grid(self.level, self.y) {
+            return 2;
+        }
+        if 1 < self.kind {
+            return 3;
+        }
+        if outside(self.kind, self.x, self.y) {
+            return 4;
+        }
+        0
+    }
+
+    pub(crate) fn equals(self, other: Triangle) -> bool
+        ensures { λ r. ⌜ r ≡ triangle .same self other ⌝ }
+    {
+        if self.x != other.x {
+            return false;
+        }
+        if self.y != other.y {
+            return false;
+        }
+        if self.level != other.level {
+            return false;
+        }
+        self.kind == other.kind
+    }
+
+    // Up the ancestors, one digit a level, the lowest first: in units of its side an anchor's last bit is the step's.
+    pub(crate) fn rank(self) -> u64
+        requires { ⌜ triangle .fault self ≡ 0 ⌝ }
+        ensures { λ r. ⌜ r ≡ Words.position triangle self ⌝ }
+    {
+        let level = self.level;
+        let s = 21 - level;
+        let mut x = self.x >> s;
+        let mut y = self.y >> s;
+        let mut kind = self.kind;
+        let mut sum = 0u64;
+        let mut i = 0u8;
+        while i < level {
+            let p = rows::place_of(x, y, kind);
+            sum += (p.number as u64) << (2 * i);
+            x /= 2;
+            y /= 2;
+            kind = p.kind;
+            i += 1;
+        }
+        sum
+    }
+
+    // The position of the first descendant of level 21.
+    pub(crate) fn start(self) -> u64
+        requires { ⌜ triangle .fault self ≡ 0 ⌝ }
+        ensures { λ r. ⌜ r ≡ Words.position triangle (Words.first triangle self 21) ⌝ }
+    {
+        self.rank() << (2 * (21 - self.level))
+    }
+
+    pub(crate) fn up(self) -> Triangle
+        requires { ⌜ (0 < self .level) × ((self .level ≤ 21) × (self .kind < 2)) ⌝ }
+        ensures { λ r. ⌜ r ≡ triangle .parent self ⌝ }
+    {
+        let level = self.level - 1;
+        let p = rows::place_of(
+            tree::bit(self.level, self.x),
+            tree::bit(self.level, self.y),
+            self.kind,
+        );
+        Triangle {
+            x: tree::rounded(level, self.x),
+            y: tree::rounded(level, self.y),
+            level,
+            kind: p.kind,
+        }
+    }
+
+    pub(crate) fn down(self, number: u8) -> Triangle
+        requires { ⌜ (triangle .fault self ≡ 0) × ((self .level < 21) × (number < 4)) ⌝ }
+        ensures { λ r. ⌜ r ≡ triangle .child self number ⌝ }
+    {
+        let level = self.level + 1;
+        let h = tree::side(level);
+        let s = rows::child_row(self.kind, number);
+        Triangle {
+            x: self.x + (s.x as u32) * h,
+            y: self.y + (s.y as u32) * h,
+            level,
+            kind: s.kind,
+        }
+    }
+
+    pub(crate) fn bottom(self, level: u8) -> Triangle
+        requires { ⌜ (triangle .fault self ≡ 0) × ((self .level ≤ level) × (level ≤ 21)) ⌝ }
+        ensures { λ r. ⌜ r ≡ Words.last triangle self level ⌝ }
+    {
+        let d = tree::side(self.level) - tree::side(level);
+        Triangle {
+            x: self.x + d,
+            y: self.y + d,
+            level,
+            kind: self.kind,
+        }
+    }
+
+    pub(crate) fn across(self, face: u8) -> TriangleAnswer
+        requires { ⌜ (triangle .fault self ≡ 0) × (face < 3) ⌝ }
+        ensures { λ r. ⌜ elementOf r ≡ triangle .neighbour self face ⌝ }
+    {
+        let h = tree::side(self.level);
+        let s = rows::face_row(self.kind, face);
+        let x = self.x + (s.x as u32) * h;
+        if x < h {
+            return TriangleAnswer::Refused(10, 0);
+        }
+        let x = x - h;
+        if 2097152 <= x {
+            return TriangleAnswer::Refused(10, 0);
+        }
+        let y = self.y + (s.y as u32) * h;
+        if y < h {
+            return TriangleAnswer::Refused(10, 0);
+        }
+        let y = y - h;
+        if 2097152 <= y {
+            return TriangleAnswer::Refused(10, 0);
+        }
+        let kind = s.kind;
+        if outside(kind, x, y) {
+            return TriangleAnswer::Refused(10, 0);
+        }
+        TriangleAnswer::Is(Triangle {
+            x,
+            y,
+            level: self.level,
+            kind,
+        })
+    }
+}
+
+// The element at a position that the level has: down from the root, one digit a level, in units of the side.
+pub(crate) fn placed(level: u8, position: u64) -> Triangle
+    requires { ⌜ (level ≤ 21) × (position < 4 ^ level) ⌝ }
+    ensures { λ r. ⌜ r ≡ Words.at triangle level position ⌝ }
+{
+    let mut x = 0u32;
+    let mut y = 0u32;
+    let mut kind = 0u8;
+    let mut left = level;
+    while 0 < left {
+        left -= 1;
+        let s = rows::child_row(kind, ((position >> (2 * left)) % 4) as u8);
+        x = 2 * x + s.x as u32;
+        y = 2 * y + s.y as u32;
+        kind = s.kind;
+    }
+    let s = 21 - level;
+    Triangle {
+        x: x << s,
+        y: y << s,
+        level,
+        kind,
+    }
+}
