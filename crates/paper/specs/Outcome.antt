@@ -4,6 +4,7 @@
 --   refuse-when t k o      refused k where the test t holds, else o; "The place is 0 unless stated"
 --   refuse-when-at t k i o the same with the place i
 --   fault-when t k o       the number k where the test t holds, else o: a check that has not yet a place
+--   mapped g o             the outcome o with its value under g
 --   scan f i es o          "checked in turn, place = index": refused at the first of es whose fault is not 0, else o
 --   passed                 accepted, with no value
 --   checks f es            the checks alone, with nothing after them
@@ -30,6 +31,10 @@ refuse-when test number rest = refuse-when-at test number 0 rest
 abbrev pub fault-when : Bool → ℕ → ℕ → ℕ
 fault-when true number rest = number
 fault-when false number rest = rest
+
+abbrev pub mapped : {A B : Type 0} → (A → B) → Outcome A → Outcome B
+mapped g (accepted a) = accepted (g a)
+mapped g (refused number place) = refused number place
 
 abbrev pub scan : {A B : Type 0} → (A → ℕ) → ℕ → List A → Outcome B → Outcome B
 scan fault i [] rest = rest

@@ -1,0 +1,82 @@
+-- What the prism takes from its triangle's and its line's answers. Assumes nothing.
+use mathlib.Core.Path.{_≡_, refl, ap, ap₂, _∙_, sym}
+use Prim.Native.Nat.{ℕ, zero, suc, _+_, _-_, _/_, _%_, _≤_, _<_}
+use native.Mathlib.Nat.{add-zero}
+use native.Mathlib.Omega.{arith}
+use borrow.Author.Tests.{lt-ltb, le-ltb}
+use Rattle.paper.specs.Outcome.{accepted, refused, mapped}
+use Rattle.tree.specs.Words.{descend, first, last}
+use Rattle.line.specs.declared.Line.{Line}
+use Rattle.line.specs.declared.LineAnswer.{LineAnswer}
+use Rattle.line.specs.Elements.{lineTo}
+use Rattle.triangle.specs.declared.Triangle.{Triangle}
+use Rattle.triangle.specs.declared.TriangleAnswer.{TriangleAnswer}
+use Rattle.triangle.specs.Elements.{triangleTo}
+use Rattle.line.specs.declared.LineAnswer.the-variants as line-answer
+use Rattle.line.specs.Elements as line
+use Rattle.line.proofs.Closed as line-closed
+use Rattle.triangle.specs.declared.TriangleAnswer.the-variants as triangle-answer
+use Rattle.triangle.specs.Elements as triangle
+use Rattle.triangle.proofs.Units as triangle-units
+use Rattle.prism.specs.declared.Prism.{Prism}
+use Rattle.prism.specs.Elements.{prismTo, triangleOf, lineOf, joined, neighbour}
+
+-- ---- an answer that is known to be accepted
+pub triangle-is : (r : TriangleAnswer) (t f : Triangle) → r ≡ triangle-answer.Is t → triangle.elementOf r ≡ accepted f → t ≡ f
+triangle-is r t f made read = let both : accepted t ≡ accepted f = sym (ap triangle.elementOf made) ∙ read in cc
+
+pub line-is : (r : LineAnswer) (m f : Line) → r ≡ line-answer.Is m → line.elementOf r ≡ accepted f → m ≡ f
+line-is r m f made read = let both : accepted m ≡ accepted f = sym (ap line.elementOf made) ∙ read in cc
+
+never : {A E : Type 0} (n p : ℕ) (f : E) → refused n p ≡ accepted f → A
+never n p f h = absurd (let z : _≡_ {A = ℕ} 0 1 = cc in omega arith)
+
+pub triangle-never : {A : Type 0} (r : TriangleAnswer) (n p : ℕ) (f : Triangle) → r ≡ triangle-answer.Refused n p → triangle.elementOf r ≡ accepted f → A
+triangle-never r n p f made read = never n p f (sym (ap triangle.elementOf made) ∙ read)
+
+pub line-never : {A : Type 0} (r : LineAnswer) (n p : ℕ) (f : Line) → r ≡ line-answer.Refused n p → line.elementOf r ≡ accepted f → A
+line-never r n p f made read = never n p f (sym (ap line.elementOf made) ∙ read)
+
+module _ (L : ℕ) where
+  -- ---- the neighbour: across a side, below and above
+  pub across-side : (e : Prism) (i : ℕ) → i < 3
+      → neighbour L e i ≡ mapped (λ (t : Triangle). joined t (lineOf e)) (triangle.neighbour L (triangleOf e) i)
+  unfolding neighbour
+  across-side e i small = simp (lt-ltb i 3 small)
+
+  pub across-end : (e : Prism) (i : ℕ) → 3 ≤ i
+      → neighbour L e i ≡ mapped (λ (m : Line). joined (triangleOf e) m) (line.neighbour L (lineOf e) (i - 3))
+  unfolding neighbour
+  across-end e i large = simp (le-ltb i 3 large)
+
+  -- ---- descendants, side by side
+  descend-parts : (i k : ℕ) (e : Prism)
+      → descend (prismTo L) i k e ≡ joined (descend (triangleTo L) (i % 4) k (triangleOf e)) (descend (lineTo L) (i / 4) k (lineOf e))
+  unfolding descend prismTo triangleTo lineTo
+  descend-parts i zero e = refl
+  descend-parts i (suc k) e =
+      let up = descend-parts i k e in
+      let t = descend (triangleTo L) (i % 4) k (triangleOf e) in
+      let m = descend (lineTo L) (i / 4) k (lineOf e) in
+      let level : t .level ≡ m .level = triangle-level k (triangleOf e) ∙ sym (line-level k (lineOf e)) in
+      ap (λ (f : Prism). joined (triangle.child L (triangleOf f) (i % 4)) (line.child L (lineOf f) (i / 4))) up
+      ∙ ap (λ (l : ℕ). joined (triangle.child L t (i % 4)) (line.child L (record { x = m .x; level = l }) (i / 4))) level
+    where
+      triangle-level : (n : ℕ) (t : Triangle) → (descend (triangleTo L) (i % 4) n t) .level ≡ t .level + n
+      triangle-level zero t = sym (add-zero (t .level))
+      triangle-level (suc n) t = omega (arith, triangle-level n t)
+
+      line-level : (n : ℕ) (m : Line) → (descend (lineTo L) (i / 4) n m) .level ≡ m .level + n
+      line-level zero m = sym (add-zero (m .level))
+      line-level (suc n) m = omega (arith, line-level n m)
+
+  pub last-parts : (e : Prism) (l : ℕ) → last (prismTo L) e l ≡ joined (last (triangleTo L) (triangleOf e) l) (last (lineTo L) (lineOf e) l)
+  unfolding prismTo triangleTo lineTo
+  last-parts e l = descend-parts 7 (l - e .level) e
+
+  pub first-closed : (e : Prism) (l : ℕ) → e .kind < 2 → e .level ≤ l
+      → first (prismTo L) e l ≡ record { x = e .x; y = e .y; z = e .z; level = l; kind = e .kind }
+  unfolding prismTo triangleTo lineTo
+  first-closed e l typed down =
+      descend-parts 0 (l - e .level) e
+      ∙ ap₂ joined (triangle-units.first-closed L (triangleOf e) l typed down) (line-closed.first-closed L (lineOf e) l down)

@@ -1,0 +1,33 @@
+-- `Prism::first_descendant` meets its contract: each way out is one case of the call. Assumes nothing.
+use mathlib.Core.Path.{ap, _∙_, sym}
+use borrow.Author.Needs.{needs}
+use Rattle.paper.specs.Outcome.{accepted}
+use Rattle.tree.specs.Words.{first}
+use Rattle.tree.proofs.Call.{faulty, descendant-refused-1, descendant-refused-6, descendant-accepted}
+use Rattle.prism.specs.Elements.{prism, prismTo}
+use Rattle.prism.proofs.Laws.{grids}
+use Rattle.prism.proofs.Parts.{first-closed}
+use Rattle.prism.proofs.Prism.first_descendant.Statement.{statement}
+use Rattle.prism.proofs.Prism.first_descendant.Tie as tie
+
+fault-requires : tie.Need-fault-requires
+fault-requires c κs = search needs
+
+returns : tie.Need-returns
+unfolding prismTo
+returns c = faulty prism (c .before .fault .result) (c .before .before .args .self) _ (c .before .fault .ensures) (c .if1 .taken)
+
+returns-2 : tie.Need-returns-2
+unfolding prismTo
+returns-2 c = sym (descendant-refused-1 prism (c .before .before .before .args .self) (sym (c .before .before .fault .ensures) ∙ c .before .if1 .left) (first prism) (c .before .before .before .args .level) (c .if2 .taken))
+
+returns-3 : tie.Need-returns-3
+unfolding prismTo
+returns-3 c = sym (descendant-refused-6 prism (c .before .before .before .before .before .args .self) (sym (c .before .before .before .before .fault .ensures) ∙ c .before .before .before .if1 .left) (first prism) (c .before .before .before .before .before .args .level) (c .before .before .if2 .left) (c .if3 .taken))
+
+returns-4 : tie.Need-returns-4
+unfolding prismTo
+returns-4 c = ap accepted (sym (first-closed 21 (c .before .before .before .before .before .args .self) (c .before .before .before .before .before .args .level) (grids 21 (c .before .before .before .before .before .args .self) (sym (c .before .before .before .before .fault .ensures) ∙ c .before .before .before .if1 .left) .0 .typed) (c .if3 .left))) ∙ sym (descendant-accepted prism (c .before .before .before .before .before .args .self) (sym (c .before .before .before .before .fault .ensures) ∙ c .before .before .before .if1 .left) (first prism) (c .before .before .before .before .before .args .level) (c .before .before .if2 .left) (c .if3 .left))
+
+pub first-descendant-spec : {M : Type 1} → statement M
+first-descendant-spec = tie.close (tie.spec fault-requires returns returns-2 returns-3 returns-4)

@@ -1,0 +1,108 @@
+-- Document 01, "Elements": prisms. "A prism is a triangle times the line from z to z+h". L is the highest level. Definitions only.
+--
+--   "Inside the root means y <= x for type 0 and y < x for type 1; z is free"
+--   "A prism child's number is 4 times the line number plus the triangle number."
+--   "Prism faces 0 to 2 follow the triangle; face 3 is z-h, face 4 is z+h, same type."
+--   "children .. 8; faces .. 5": 1 level above the highest, 2 anchor 2^21 or more, or no multiple of h, 3 type above 1, 4 outside
+--   the root
+--
+--   triangleOf, lineOf   the two that a prism is the product of; joined puts them together again
+--   prismTo L            prisms as a shape, highest level L
+--   prism                "highest level 21 for all three"
+--   elementOf            the outcome that a PrismAnswer stands for
+--   equalColumns         whether the five lent columns are equally long; Equal, that they are
+--   element i            entry i of them
+--   elements             all of them
+--
+-- Assumes nothing.
+use mathlib.Core.Path.{_≡_}
+use mathlib.Core.Bool.{Bool, not, cond, _&&_, _||_}
+use mathlib.Core.List.{List}
+use Prim.Native.Nat.{ℕ, _+_, _-_, _*_, _/_, _%_}
+use lib.Dec.{ltb, eqb}
+use lib.ListN.{length, getD}
+use Rattle.paper.specs.Outcome.{Outcome, accepted, refused, mapped, fault-when, rows}
+use Rattle.tree.specs.Shape.{Shape}
+use Rattle.tree.specs.Anchors.{offGrid}
+use Rattle.line.specs.declared.Line.{Line}
+use Rattle.triangle.specs.declared.Triangle.{Triangle}
+use Rattle.line.specs.Elements as line
+use Rattle.triangle.specs.Elements as triangle
+use Rattle.prism.specs.declared.Prism.{Prism}
+use Rattle.prism.specs.declared.PrismAnswer.{PrismAnswer}
+use Rattle.prism.specs.declared.PrismAnswer.the-variants.{Is, Refused}
+
+abbrev pub triangleOf : Prism → Triangle
+triangleOf e = record { x = e .x; y = e .y; level = e .level; kind = e .kind }
+
+abbrev pub lineOf : Prism → Line
+lineOf e = record { x = e .z; level = e .level }
+
+abbrev pub joined : Triangle → Line → Prism
+joined t m = record { x = t .x; y = t .y; z = m .x; level = t .level; kind = t .kind }
+
+module _ (L : ℕ) where
+  abbrev pub fault : Prism → ℕ
+  fault e =
+      fault-when (ltb L (e .level)) 1
+      (fault-when (offGrid L (e .level) (e .x) || (offGrid L (e .level) (e .y) || offGrid L (e .level) (e .z))) 2
+      (fault-when (ltb 1 (e .kind)) 3
+      (fault-when (not (triangle.insideRoot (e .kind) (e .x) (e .y))) 4 0)))
+
+  abbrev pub child : Prism → ℕ → Prism
+  child e i = joined (triangle.child L (triangleOf e) (i % 4)) (line.child L (lineOf e) (i / 4))
+
+  abbrev pub parent : Prism → Prism
+  parent e = joined (triangle.parent L (triangleOf e)) (line.parent L (lineOf e))
+
+  abbrev pub number : Prism → ℕ
+  number e = 4 * line.number L (lineOf e) + triangle.number L (triangleOf e)
+
+  unfoldable pub neighbour : Prism → ℕ → Outcome Prism
+  neighbour e i =
+      cond (ltb i 3)
+      (mapped (λ (t : Triangle). joined t (lineOf e)) (triangle.neighbour L (triangleOf e) i))
+      (mapped (λ (m : Line). joined (triangleOf e) m) (line.neighbour L (lineOf e) (i - 3)))
+
+  unfoldable pub prismTo : Shape Prism
+  prismTo =
+      record {
+        children = 8;
+        faces = 5;
+        highest = L;
+        level = λ e. e .level;
+        fault = fault;
+        root = record { x = 0; y = 0; z = 0; level = 0; kind = 0 };
+        child = child;
+        parent = parent;
+        number = number;
+        neighbour = neighbour;
+        same = λ e f.
+            eqb (e .x) (f .x)
+            && (eqb (e .y) (f .y) && (eqb (e .z) (f .z) && (eqb (e .level) (f .level) && eqb (e .kind) (f .kind))));
+      }
+
+abbrev pub prism : Shape Prism
+prism = prismTo 21
+
+abbrev pub elementOf : PrismAnswer → Outcome Prism
+elementOf (Is e) = accepted e
+elementOf (Refused number place) = refused number place
+
+abbrev pub equalColumns : List ℕ → List ℕ → List ℕ → List ℕ → List ℕ → Bool
+equalColumns levels xs ys zs kinds =
+    eqb (length levels) (length xs)
+    && (eqb (length levels) (length ys) && (eqb (length levels) (length zs) && eqb (length levels) (length kinds)))
+
+pub record Equal (levels xs ys zs kinds : List ℕ) : Type 0 where
+  pub with-xs : length levels ≡ length xs
+  pub with-ys : length levels ≡ length ys
+  pub with-zs : length levels ≡ length zs
+  pub with-kinds : length levels ≡ length kinds
+
+abbrev pub element : List ℕ → List ℕ → List ℕ → List ℕ → List ℕ → ℕ → Prism
+element levels xs ys zs kinds i =
+    record { x = getD xs i 0; y = getD ys i 0; z = getD zs i 0; level = getD levels i 0; kind = getD kinds i 0 }
+
+abbrev pub elements : List ℕ → List ℕ → List ℕ → List ℕ → List ℕ → List Prism
+elements levels xs ys zs kinds = rows (element levels xs ys zs kinds) 0 (length levels)

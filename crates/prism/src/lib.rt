@@ -1,0 +1,201 @@
+// Prisms: a triangle times a line. Each contract is one of the ten calls of `tree`, at this shape; `specs/Elements.antt`
+// says what a prism is.
+use paper::FamilyAnswer;
+use paper::OrderAnswer;
+use paper::PositionAnswer;
+ghost use mathlib.Core.Path.{_≡_};
+ghost use Prim.Native.Nat.{_<_};
+ghost use Rattle.paper.specs.Readings.{positionOf, familyOf, orderOf};
+ghost use Rattle.tree.specs.Calls;
+ghost use Rattle.prism.specs.Elements.{prism, elementOf, equalColumns, elements};
+
+mod family;
+mod work;
+
+#[repr(C)]
+pub struct Prism {
+    pub x: u32,
+    pub y: u32,
+    pub z: u32,
+    pub level: u8,
+    // The type: `type` is a word of the language.
+    pub kind: u8,
+}
+
+// A prism, or the refusal's number and place.
+pub enum PrismAnswer {
+    Is(Prism),
+    Refused(u8, u64),
+}
+
+impl Prism {
+    pub const CHILDREN: u8 = 8;
+
+    pub const FACES: u8 = 5;
+
+    pub const CORNERS: u8 = 6;
+
+    // The element of a level at a position. Refused: 1, 5.
+    pub fn at(level: u8, position: u64) -> PrismAnswer
+        ensures { λ r. ⌜ elementOf r ≡ Calls.at prism level position ⌝ }
+    {
+        if 21 < level {
+            return PrismAnswer::Refused(1, 0);
+        }
+        if 1u64 << (3 * level) <= position {
+            return PrismAnswer::Refused(5, 0);
+        }
+        PrismAnswer::Is(work::placed(level, position))
+    }
+
+    // The position of an element. Refused: 1, 2, 3, 4.
+    pub fn position(self) -> PositionAnswer
+        ensures { λ r. ⌜ positionOf r ≡ Calls.position prism self ⌝ }
+    {
+        let fault = self.fault();
+        if fault != 0 {
+            return PositionAnswer::Refused(fault, 0);
+        }
+        PositionAnswer::Is(self.rank())
+    }
+
+    // The element that this one is a child of. Refused: 1, 2, 3, 4, 6.
+    pub fn parent(self) -> PrismAnswer
+        ensures { λ r. ⌜ elementOf r ≡ Calls.parent prism self ⌝ }
+    {
+        let fault = self.fault();
+        if fault != 0 {
+            return PrismAnswer::Refused(fault, 0);
+        }
+        if self.level == 0 {
+            return PrismAnswer::Refused(6, 0);
+        }
+        PrismAnswer::Is(self.up())
+    }
+
+    // A child by its number. Refused: 1, 2, 3, 4, 7, 8.
+    pub fn child(self, number: u8) -> PrismAnswer
+        ensures { λ r. ⌜ elementOf r ≡ Calls.child prism self number ⌝ }
+    {
+        let fault = self.fault();
+        if fault != 0 {
+            return PrismAnswer::Refused(fault, 0);
+        }
+        if 21 <= self.level {
+            return PrismAnswer::Refused(7, 0);
+        }
+        if 8 <= number {
+            return PrismAnswer::Refused(8, 0);
+        }
+        PrismAnswer::Is(self.down(number))
+    }
+
+    // The next element of the level. Refused: 1, 2, 3, 4, 9.
+    pub fn successor(self) -> PrismAnswer
+        ensures { λ r. ⌜ elementOf r ≡ Calls.successor prism self ⌝ }
+    {
+        let fault = self.fault();
+        if fault != 0 {
+            return PrismAnswer::Refused(fault, 0);
+        }
+        let next = self.rank() + 1;
+        let level = self.level;
+        if next == 1u64 << (3 * level) {
+            return PrismAnswer::Refused(9, 0);
+        }
+        PrismAnswer::Is(work::placed(level, next))
+    }
+
+    // The first descendant at a level. Refused: 1, 2, 3, 4, then 1, 6 for the level.
+    pub fn first_descendant(self, level: u8) -> PrismAnswer
+        ensures { λ r. ⌜ elementOf r ≡ Calls.first prism self level ⌝ }
+    {
+        let fault = self.fault();
+        if fault != 0 {
+            return PrismAnswer::Refused(fault, 0);
+        }
+        if 21 < level {
+            return PrismAnswer::Refused(1, 0);
+        }
+        if level < self.level {
+            return PrismAnswer::Refused(6, 0);
+        }
+        PrismAnswer::Is(Prism {
+            x: self.x,
+            y: self.y,
+            z: self.z,
+            level,
+            kind: self.kind,
+        })
+    }
+
+    // The last descendant at a level. Refused: 1, 2, 3, 4, then 1, 6 for the level.
+    pub fn last_descendant(self, level: u8) -> PrismAnswer
+        ensures { λ r. ⌜ elementOf r ≡ Calls.last prism self level ⌝ }
+    {
+        let fault = self.fault();
+        if fault != 0 {
+            return PrismAnswer::Refused(fault, 0);
+        }
+        if 21 < level {
+            return PrismAnswer::Refused(1, 0);
+        }
+        if level < self.level {
+            return PrismAnswer::Refused(6, 0);
+        }
+        PrismAnswer::Is(self.bottom(level))
+    }
+
+    // The element across a face. Refused: 1, 2, 3, 4, 8, 10.
+    pub fn neighbour(self, face: u8) -> PrismAnswer
+        ensures { λ r. ⌜ elementOf r ≡ Calls.neighbour prism self face ⌝ }
+    {
+        let fault = self.fault();
+        if fault != 0 {
+            return PrismAnswer::Refused(fault, 0);
+        }
+        if 5 <= face {
+            return PrismAnswer::Refused(8, 0);
+        }
+        self.across(face)
+    }
+
+    // The order of two elements. Refused: 1, 2, 3, 4, at place 0 or 1.
+    pub fn compare(self, other: Prism) -> OrderAnswer
+        ensures { λ r. ⌜ orderOf r ≡ Calls.order prism self other ⌝ }
+    {
+        let fault = self.fault();
+        if fault != 0 {
+            return OrderAnswer::Refused(fault, 0);
+        }
+        let second = other.fault();
+        if second != 0 {
+            return OrderAnswer::Refused(second, 1);
+        }
+        tree::order(self.start(), self.level, other.start(), other.level)
+    }
+
+    // Whether the elements of the columns are all children of one parent, in order. Refused: 11, then 1, 2, 3, 4 at each element's
+    // index.
+    pub fn family(levels: &[u8], xs: &[u32], ys: &[u32], zs: &[u32], kinds: &[u8]) -> FamilyAnswer
+        ensures { λ r. ⌜ familyOf r ≡ Calls.family prism (equalColumns (now (levels .entry)) (now (xs .entry)) (now (ys .entry)) (now (zs .entry)) (now (kinds .entry))) (elements (now (levels .entry)) (now (xs .entry)) (now (ys .entry)) (now (zs .entry)) (now (kinds .entry))) ⌝ }
+    {
+        if levels.len() != xs.len() {
+            return FamilyAnswer::Refused(11, 0);
+        }
+        if levels.len() != ys.len() {
+            return FamilyAnswer::Refused(11, 0);
+        }
+        if levels.len() != zs.len() {
+            return FamilyAnswer::Refused(11, 0);
+        }
+        if levels.len() != kinds.len() {
+            return FamilyAnswer::Refused(11, 0);
+        }
+        let fault = family::first_fault(levels, xs, ys, zs, kinds);
+        if fault.number != 0 {
+            return FamilyAnswer::Refused(fault.number, fault.place);
+        }
+        FamilyAnswer::Is(family::are_siblings(levels, xs, ys, zs, kinds))
+    }
+}

@@ -1,0 +1,209 @@
+// What the calls do once their tests have passed. Each function asks for just what those tests have shown. A step to a relative is
+// the triangle's and the line's own, side by side; only the two loops over the levels go in one.
+use crate::Prism;
+use crate::PrismAnswer;
+use line::Line;
+use line::LineAnswer;
+use triangle::Triangle;
+use triangle::TriangleAnswer;
+use triangle::rows;
+ghost use mathlib.Core.Path.{_≡_};
+ghost use Prim.Native.Nat.{_^_, _≤_, _<_};
+ghost use Rattle.tree.specs.Words;
+ghost use Rattle.prism.specs.Elements.{prism, elementOf, triangleOf, lineOf, joined};
+
+impl Prism {
+    // The number of the first check that the element fails, or 0.
+    pub(crate) fn fault(self) -> u8
+        ensures { λ r. ⌜ r ≡ prism .fault self ⌝ }
+    {
+        if 21 < self.level {
+            return 1;
+        }
+        if tree::off_grid(self.level, self.x) {
+            return 2;
+        }
+        if tree::off_grid(self.level, self.y) {
+            return 2;
+        }
+        if tree::off_grid(self.level, self.z) {
+            return 2;
+        }
+        if 1 < self.kind {
+            return 3;
+        }
+        if triangle::outside(self.kind, self.x, self.y) {
+            return 4;
+        }
+        0
+    }
+
+    pub(crate) fn equals(self, other: Prism) -> bool
+        ensures { λ r. ⌜ r ≡ prism .same self other ⌝ }
+    {
+        if self.x != other.x {
+            return false;
+        }
+        if self.y != other.y {
+            return false;
+        }
+        if self.z != other.z {
+            return false;
+        }
+        if self.level != other.level {
+            return false;
+        }
+        self.kind == other.kind
+    }
+
+    // The two that a prism is the product of.
+    fn plan(self) -> Triangle
+        ensures { λ r. ⌜ r ≡ triangleOf self ⌝ }
+    {
+        Triangle {
+            x: self.x,
+            y: self.y,
+            level: self.level,
+            kind: self.kind,
+        }
+    }
+
+    fn upright(self) -> Line
+        ensures { λ r. ⌜ r ≡ lineOf self ⌝ }
+    {
+        Line {
+            x: self.z,
+            level: self.level,
+        }
+    }
+
+    pub(crate) fn up(self) -> Prism
+        requires { ⌜ (prism .fault self ≡ 0) × (0 < self .level) ⌝ }
+        ensures { λ r. ⌜ r ≡ prism .parent self ⌝ }
+    {
+        let TriangleAnswer::Is(t) = self.plan().parent() else {
+            return self;
+        };
+        let LineAnswer::Is(m) = self.upright().parent() else {
+            return self;
+        };
+        product(t, m)
+    }
+
+    pub(crate) fn down(self, number: u8) -> Prism
+        requires { ⌜ (prism .fault self ≡ 0) × ((self .level < 21) × (number < 8)) ⌝ }
+        ensures { λ r. ⌜ r ≡ prism .child self number ⌝ }
+    {
+        let TriangleAnswer::Is(t) = self.plan().child(number % 4) else {
+            return self;
+        };
+        let LineAnswer::Is(m) = self.upright().child(number / 4) else {
+            return self;
+        };
+        product(t, m)
+    }
+
+    pub(crate) fn bottom(self, level: u8) -> Prism
+        requires { ⌜ (prism .fault self ≡ 0) × ((self .level ≤ level) × (level ≤ 21)) ⌝ }
+        ensures { λ r. ⌜ r ≡ Words.last prism self level ⌝ }
+    {
+        let TriangleAnswer::Is(t) = self.plan().last_descendant(level) else {
+            return self;
+        };
+        let LineAnswer::Is(m) = self.upright().last_descendant(level) else {
+            return self;
+        };
+        product(t, m)
+    }
+
+    pub(crate) fn across(self, face: u8) -> PrismAnswer
+        requires { ⌜ (prism .fault self ≡ 0) × (face < 5) ⌝ }
+        ensures { λ r. ⌜ elementOf r ≡ prism .neighbour self face ⌝ }
+    {
+        if face < 3 {
+            return match self.plan().neighbour(face) {
+                TriangleAnswer::Is(t) => PrismAnswer::Is(product(t, self.upright())),
+                TriangleAnswer::Refused(number, place) => PrismAnswer::Refused(number, place),
+            };
+        }
+        match self.upright().neighbour(face - 3) {
+            LineAnswer::Is(m) => PrismAnswer::Is(product(self.plan(), m)),
+            LineAnswer::Refused(number, place) => PrismAnswer::Refused(number, place),
+        }
+    }
+
+    // Up the ancestors, one digit a level, the lowest first: in units of its side an anchor's last bit is the step's.
+    pub(crate) fn rank(self) -> u64
+        requires { ⌜ prism .fault self ≡ 0 ⌝ }
+        ensures { λ r. ⌜ r ≡ Words.position prism self ⌝ }
+    {
+        let level = self.level;
+        let s = 21 - level;
+        let mut x = self.x >> s;
+        let mut y = self.y >> s;
+        let mut z = self.z >> s;
+        let mut kind = self.kind;
+        let mut sum = 0u64;
+        let mut i = 0u8;
+        while i < level {
+            let p = rows::place_of(x, y, kind);
+            sum += (4 * (z % 2) as u64 + p.number as u64) << (3 * i);
+            x /= 2;
+            y /= 2;
+            z /= 2;
+            kind = p.kind;
+            i += 1;
+        }
+        sum
+    }
+
+    // The position of the first descendant of level 21.
+    pub(crate) fn start(self) -> u64
+        requires { ⌜ prism .fault self ≡ 0 ⌝ }
+        ensures { λ r. ⌜ r ≡ Words.position prism (Words.first prism self 21) ⌝ }
+    {
+        self.rank() << (3 * (21 - self.level))
+    }
+}
+
+// A triangle times a line of its level.
+fn product(t: Triangle, m: Line) -> Prism
+    ensures { λ r. ⌜ r ≡ joined t m ⌝ }
+{
+    Prism {
+        x: t.x,
+        y: t.y,
+        z: m.x,
+        level: t.level,
+        kind: t.kind,
+    }
+}
+
+// The element at a position that the level has: down from the root, one digit a level, in units of the side.
+pub(crate) fn placed(level: u8, position: u64) -> Prism
+    requires { ⌜ (level ≤ 21) × (position < 8 ^ level) ⌝ }
+    ensures { λ r. ⌜ r ≡ Words.at prism level position ⌝ }
+{
+    let mut x = 0u32;
+    let mut y = 0u32;
+    let mut z = 0u32;
+    let mut kind = 0u8;
+    let mut left = level;
+    while 0 < left {
+        left -= 1;
+        let d = ((position >> (3 * left)) % 8) as u8;
+        let s = rows::child_row(kind, d % 4);
+        x = 2 * x + s.x as u32;
+        y = 2 * y + s.y as u32;
+        z = 2 * z + (d / 4) as u32;
+        kind = s.kind;
+    }
+    let s = 21 - level;
+    Prism {
+        x: x << s,
+        y: y << s,
+        z: z << s,
+        level,
+        kind,
+    }
+}
