@@ -1,0 +1,4 @@
+pub mod Count
+pub mod Rise
+pub mod Overlay
+pub mod Rank

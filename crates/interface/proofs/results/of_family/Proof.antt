@@ -1,0 +1,36 @@
+-- `of_family` meets its contract, by the answer's three cases. Assumes nothing.
+use mathlib.Core.Path.{ap, _∙_, sym}
+use mathlib.Core.Bool.{Bool}
+use Prim.Native.Nat.{ℕ}
+use borrow.Author.Needs.{needs}
+use Rattle.paper.specs.Outcome.{accepted}
+use Rattle.paper.specs.Readings.{familyOf}
+use Rattle.paper.specs.declared.FamilyAnswer.{FamilyAnswer}
+use Rattle.interface.specs.Results.{familyResult}
+use Rattle.interface.proofs.results.of_family.Statement.{statement}
+use Rattle.interface.proofs.results.of_family.Tie as tie
+
+enum-known-a : tie.Need-enum-known-a
+enum-known-a c = search needs
+
+returns : tie.Need-returns
+unfolding familyResult
+returns c = ap (λ (b : Bool). familyResult (accepted b)) (sym (c .if1 .taken)) ∙ ap (λ (a : FamilyAnswer). familyResult (familyOf a)) (sym (c .before .before .a .given .1))
+
+enum-known-a-2 : tie.Need-enum-known-a-2
+enum-known-a-2 c = search needs
+
+word-requires : tie.Need-word-requires
+word-requires c κs = search needs
+
+returns-2 : tie.Need-returns-2
+unfolding familyResult
+returns-2 c = ap (λ (b : Bool). familyResult (accepted b)) (sym (c .if1 .left)) ∙ ap (λ (a : FamilyAnswer). familyResult (familyOf a)) (sym (c .before .before .a .given .1))
+
+returns-3 : tie.Need-returns-3
+unfolding familyResult
+returns-3 c = ap (λ (w : ℕ). record { refusal = w; value = 0 }) (c .word .ensures) ∙ ap (λ (a : FamilyAnswer). familyResult (familyOf a)) (sym (c .before .before .a2 .given .1))
+
+pub of-family-spec : {M : Type 1} → statement M
+of-family-spec =
+    tie.close (tie.spec enum-known-a returns enum-known-a-2 word-requires returns-2 returns-3)

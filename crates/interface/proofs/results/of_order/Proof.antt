@@ -1,0 +1,55 @@
+-- `of_order` meets its contract, by the answer's four cases. Assumes nothing.
+use mathlib.Core.Path.{ap, _∙_, sym}
+use Prim.Native.Nat.{ℕ}
+use lib.IntN.{pos}
+use borrow.Author.Needs.{needs}
+use Rattle.paper.specs.Readings.{orderOf}
+use Rattle.paper.specs.declared.OrderAnswer.{OrderAnswer}
+use Rattle.interface.specs.Results.{orderResult}
+use Rattle.interface.proofs.results.of_order.Statement.{statement}
+use Rattle.interface.proofs.results.of_order.Tie as tie
+
+enum-told : tie.Need-enum-told
+enum-told c = search needs
+
+enum-told-2 : tie.Need-enum-told-2
+enum-told-2 c = search needs
+
+enum-told-3 : tie.Need-enum-told-3
+enum-told-3 c = search needs
+
+enum-known-a : tie.Need-enum-known-a
+enum-known-a c = search needs
+
+word-requires : tie.Need-word-requires
+word-requires c κs = search needs
+
+returns : tie.Need-returns
+unfolding orderResult
+returns c = ap (λ (a : OrderAnswer). orderResult (orderOf a)) (sym (c .enum-told .given .1))
+
+returns-2 : tie.Need-returns-2
+unfolding orderResult
+returns-2 c = ap (λ (a : OrderAnswer). orderResult (orderOf a)) (sym (c .enum-told2 .given .1))
+
+returns-3 : tie.Need-returns-3
+unfolding orderResult
+returns-3 c = ap (λ (a : OrderAnswer). orderResult (orderOf a)) (sym (c .enum-told3 .given .1))
+
+returns-4 : tie.Need-returns-4
+unfolding orderResult
+returns-4 c = ap (λ (w : ℕ). record { refusal = w; value = pos 0 }) (c .word .ensures) ∙ ap (λ (a : OrderAnswer). orderResult (orderOf a)) (sym (c .before .before .a .given .1))
+
+pub of-order-spec : {M : Type 1} → statement M
+of-order-spec =
+    tie.close
+    (tie.spec
+    enum-told
+    enum-told-2
+    enum-told-3
+    enum-known-a
+    word-requires
+    returns
+    returns-2
+    returns-3
+    returns-4)

@@ -1,0 +1,57 @@
+-- How an outcome goes over the C interface: a word for the refusal, and the value beside it. Definitions only.
+--
+--   word o         "0 when accepted, else place·256 + number"; a place is taken modulo 2^56, so that the word always holds it (no lent
+--                  column has as many entries)
+--   valueOr z o    the value, z on a refusal
+--   lineResult, triangleResult, prismResult, numberResult, familyResult, orderResult
+--                  what the call with the outcome o returns: on a refusal every field of the value is 0
+--   signOf o       less is -1, same 0, greater 1
+--
+-- Assumes nothing.
+use mathlib.Core.Bool.{Bool, true, false}
+use Prim.Native.Nat.{ℕ, _+_, _*_, _%_, _^_}
+use lib.IntN.{ℤ, pos, negsuc}
+use Rattle.paper.specs.Outcome.{Outcome, accepted, refused, Order, less, same, greater}
+use Rattle.line.specs.declared.Line.{Line}
+use Rattle.triangle.specs.declared.Triangle.{Triangle}
+use Rattle.prism.specs.declared.Prism.{Prism}
+use Rattle.interface.specs.declared.LineResult.{LineResult}
+use Rattle.interface.specs.declared.TriangleResult.{TriangleResult}
+use Rattle.interface.specs.declared.PrismResult.{PrismResult}
+use Rattle.interface.specs.declared.NumberResult.{NumberResult}
+use Rattle.interface.specs.declared.OrderResult.{OrderResult}
+
+abbrev pub word : {A : Type 0} → Outcome A → ℕ
+word (accepted a) = 0
+word (refused number place) = place % 2 ^ 56 * 256 + number
+
+abbrev pub valueOr : {A : Type 0} → A → Outcome A → A
+valueOr nothing (accepted a) = a
+valueOr nothing (refused number place) = nothing
+
+unfoldable pub lineResult : Outcome Line → LineResult
+lineResult o = record { refusal = word o; value = valueOr (record { x = 0; level = 0 }) o }
+
+unfoldable pub triangleResult : Outcome Triangle → TriangleResult
+triangleResult o = record { refusal = word o; value = valueOr (record { x = 0; y = 0; level = 0; kind = 0 }) o }
+
+unfoldable pub prismResult : Outcome Prism → PrismResult
+prismResult o = record { refusal = word o; value = valueOr (record { x = 0; y = 0; z = 0; level = 0; kind = 0 }) o }
+
+unfoldable pub numberResult : Outcome ℕ → NumberResult
+numberResult o = record { refusal = word o; value = valueOr 0 o }
+
+abbrev pub oneIf : Bool → ℕ
+oneIf true = 1
+oneIf false = 0
+
+unfoldable pub familyResult : Outcome Bool → NumberResult
+familyResult o = record { refusal = word o; value = oneIf (valueOr false o) }
+
+abbrev pub signOf : Order → ℤ
+signOf less = negsuc 0
+signOf same = pos 0
+signOf greater = pos 1
+
+unfoldable pub orderResult : Outcome Order → OrderResult
+orderResult o = record { refusal = word o; value = signOf (valueOr same o) }

@@ -1,0 +1,82 @@
+// The calls on lines.
+use crate::LineResult;
+use crate::NumberResult;
+use crate::OrderResult;
+use crate::results;
+use line::Line;
+ghost use mathlib.Core.Path.{_≡_};
+ghost use lib.Dec.{eqb};
+ghost use lib.ListN.{length};
+ghost use Rattle.tree.specs.Calls;
+ghost use Rattle.line.specs.Elements.{line, elements};
+ghost use Rattle.interface.specs.Results.{lineResult, numberResult, familyResult, orderResult};
+
+#[no_mangle]
+pub extern "C" fn gw_line_at(level: u8, position: u64) -> LineResult
+    ensures { λ r. ⌜ r ≡ lineResult (Calls.at line level position) ⌝ }
+{
+    results::of_line(Line::at(level, position))
+}
+
+#[no_mangle]
+pub extern "C" fn gw_line_position(e: Line) -> NumberResult
+    ensures { λ r. ⌜ r ≡ numberResult (Calls.position line e) ⌝ }
+{
+    results::of_position(e.position())
+}
+
+#[no_mangle]
+pub extern "C" fn gw_line_parent(e: Line) -> LineResult
+    ensures { λ r. ⌜ r ≡ lineResult (Calls.parent line e) ⌝ }
+{
+    results::of_line(e.parent())
+}
+
+#[no_mangle]
+pub extern "C" fn gw_line_child(e: Line, number: u8) -> LineResult
+    ensures { λ r. ⌜ r ≡ lineResult (Calls.child line e number) ⌝ }
+{
+    results::of_line(e.child(number))
+}
+
+#[no_mangle]
+pub extern "C" fn gw_line_successor(e: Line) -> LineResult
+    ensures { λ r. ⌜ r ≡ lineResult (Calls.successor line e) ⌝ }
+{
+    results::of_line(e.successor())
+}
+
+#[no_mangle]
+pub extern "C" fn gw_line_first_descendant(e: Line, level: u8) -> LineResult
+    ensures { λ r. ⌜ r ≡ lineResult (Calls.first line e level) ⌝ }
+{
+    results::of_line(e.first_descendant(level))
+}
+
+#[no_mangle]
+pub extern "C" fn gw_line_last_descendant(e: Line, level: u8) -> LineResult
+    ensures { λ r. ⌜ r ≡ lineResult (Calls.last line e level) ⌝ }
+{
+    results::of_line(e.last_descendant(level))
+}
+
+#[no_mangle]
+pub extern "C" fn gw_line_neighbour(e: Line, face: u8) -> LineResult
+    ensures { λ r. ⌜ r ≡ lineResult (Calls.neighbour line e face) ⌝ }
+{
+    results::of_line(e.neighbour(face))
+}
+
+#[no_mangle]
+pub extern "C" fn gw_line_compare(e: Line, f: Line) -> OrderResult
+    ensures { λ r. ⌜ r ≡ orderResult (Calls.order line e f) ⌝ }
+{
+    results::of_order(e.compare(f))
+}
+
+#[no_mangle]
+pub extern "C" fn gw_line_family(levels: &[u8], xs: &[u32]) -> NumberResult
+    ensures { λ r. ⌜ r ≡ familyResult (Calls.family line (eqb (length (now (levels .entry))) (length (now (xs .entry)))) (elements (now (levels .entry)) (now (xs .entry)))) ⌝ }
+{
+    results::of_family(Line::family(levels, xs))
+}

@@ -1,0 +1,146 @@
+// From an answer to its result.
+use crate::LineResult;
+use crate::NumberResult;
+use crate::OrderResult;
+use crate::PrismResult;
+use crate::TriangleResult;
+use line::Line;
+use line::LineAnswer;
+use paper::FamilyAnswer;
+use paper::OrderAnswer;
+use paper::PositionAnswer;
+use prism::Prism;
+use prism::PrismAnswer;
+use triangle::Triangle;
+use triangle::TriangleAnswer;
+ghost use mathlib.Core.Path.{_≡_};
+ghost use Prim.Native.Nat.{_+_, _*_, _%_, _^_};
+ghost use Rattle.paper.specs.Readings.{positionOf, familyOf, orderOf};
+ghost use Rattle.line.specs.Elements as lines;
+ghost use Rattle.triangle.specs.Elements as triangles;
+ghost use Rattle.prism.specs.Elements as prisms;
+ghost use Rattle.interface.specs.Results.{lineResult, triangleResult, prismResult, numberResult, familyResult, orderResult};
+
+// The word of a refusal.
+fn word(number: u8, place: u64) -> u64
+    ensures { λ r. ⌜ r ≡ place % 2 ^ 56 * 256 + number ⌝ }
+{
+    place % 72057594037927936 * 256 + number as u64
+}
+
+pub(crate) fn of_line(a: LineAnswer) -> LineResult
+    ensures { λ r. ⌜ r ≡ lineResult (lines.elementOf a) ⌝ }
+{
+    match a {
+        LineAnswer::Is(e) => LineResult {
+            refusal: 0,
+            value: e,
+        },
+        LineAnswer::Refused(number, place) => LineResult {
+            refusal: word(number, place),
+            value: Line { x: 0, level: 0 },
+        },
+    }
+}
+
+pub(crate) fn of_triangle(a: TriangleAnswer) -> TriangleResult
+    ensures { λ r. ⌜ r ≡ triangleResult (triangles.elementOf a) ⌝ }
+{
+    match a {
+        TriangleAnswer::Is(e) => TriangleResult {
+            refusal: 0,
+            value: e,
+        },
+        TriangleAnswer::Refused(number, place) => TriangleResult {
+            refusal: word(number, place),
+            value: Triangle {
+                x: 0,
+                y: 0,
+                level: 0,
+                kind: 0,
+            },
+        },
+    }
+}
+
+pub(crate) fn of_prism(a: PrismAnswer) -> PrismResult
+    ensures { λ r. ⌜ r ≡ prismResult (prisms.elementOf a) ⌝ }
+{
+    match a {
+        PrismAnswer::Is(e) => PrismResult {
+            refusal: 0,
+            value: e,
+        },
+        PrismAnswer::Refused(number, place) => PrismResult {
+            refusal: word(number, place),
+            value: Prism {
+                x: 0,
+                y: 0,
+                z: 0,
+                level: 0,
+                kind: 0,
+            },
+        },
+    }
+}
+
+pub(crate) fn of_position(a: PositionAnswer) -> NumberResult
+    ensures { λ r. ⌜ r ≡ numberResult (positionOf a) ⌝ }
+{
+    match a {
+        PositionAnswer::Is(p) => NumberResult {
+            refusal: 0,
+            value: p,
+        },
+        PositionAnswer::Refused(number, place) => NumberResult {
+            refusal: word(number, place),
+            value: 0,
+        },
+    }
+}
+
+pub(crate) fn of_family(a: FamilyAnswer) -> NumberResult
+    ensures { λ r. ⌜ r ≡ familyResult (familyOf a) ⌝ }
+{
+    match a {
+        FamilyAnswer::Is(yes) => {
+            if yes {
+                return NumberResult {
+                    refusal: 0,
+                    value: 1,
+                };
+            }
+            NumberResult {
+                refusal: 0,
+                value: 0,
+            }
+        }
+        FamilyAnswer::Refused(number, place) => NumberResult {
+            refusal: word(number, place),
+            value: 0,
+        },
+    }
+}
+
+pub(crate) fn of_order(a: OrderAnswer) -> OrderResult
+    ensures { λ r. ⌜ r ≡ orderResult (orderOf a) ⌝ }
+{
+    match a {
+        OrderAnswer::Less => OrderResult {
+            refusal: 0,
+            value: -1,
+        },
+        OrderAnswer::Same => OrderResult {
+            refusal: 0,
+            value: 0,
+        },
+        OrderAnswer::Greater => OrderResult {
+            refusal: 0,
+            value: 1,
+        },
+        OrderAnswer::Refused(number, place) => OrderResult {
+            refusal: word(number, place),
+            value: 0,
+        },
+    }
+}

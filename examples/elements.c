@@ -1,0 +1,51 @@
+/* From an element to its child, back to a number, across a face, and two refusals. */
+#include <inttypes.h>
+#include <stdio.h>
+
+#include "gwerniloc.h"
+
+static void print_prism(const char *name, gw_prism_answer a)
+{
+    if (a.refusal != 0) {
+        printf("%s: refused %u place %" PRIu64 "\n", name, GW_REFUSAL_NUMBER(a.refusal), GW_REFUSAL_PLACE(a.refusal));
+        return;
+    }
+    printf("%s: level %u anchor %" PRIu32 " %" PRIu32 " %" PRIu32 " type %u\n", name, (unsigned)a.value.level,
+           a.value.x, a.value.y, a.value.z, (unsigned)a.value.kind);
+}
+
+static void print_number(const char *name, gw_number_answer a)
+{
+    if (a.refusal != 0)
+        printf("%s: refused %u place %" PRIu64 "\n", name, GW_REFUSAL_NUMBER(a.refusal), GW_REFUSAL_PLACE(a.refusal));
+    else
+        printf("%s: %" PRIu64 "\n", name, a.value);
+}
+
+int main(void)
+{
+    gw_prism_answer element = gw_prism_at(1, 6);
+    gw_prism_answer child = gw_prism_child(element.value, 1);
+
+    print_prism("element 6 of level 1", element);
+    print_prism("its child 1", child);
+    print_number("the child's position", gw_prism_position(child.value));
+    print_prism("across face 2", gw_prism_neighbour(element.value, 2));
+    print_prism("across face 4", gw_prism_neighbour(element.value, 4));
+
+    /* The eight children, as columns; then with the type of the sixth damaged. */
+    uint8_t level[GW_PRISM_CHILDREN], kind[GW_PRISM_CHILDREN];
+    uint32_t x[GW_PRISM_CHILDREN], y[GW_PRISM_CHILDREN], z[GW_PRISM_CHILDREN];
+    for (uint8_t i = 0; i < GW_PRISM_CHILDREN; i++) {
+        gw_prism c = gw_prism_child(element.value, i).value;
+        level[i] = c.level;
+        x[i] = c.x;
+        y[i] = c.y;
+        z[i] = c.z;
+        kind[i] = c.kind;
+    }
+    print_number("its children are a family", gw_prism_family(level, 8, x, 8, y, 8, z, 8, kind, 8));
+    kind[5] = 2;
+    print_number("with one damaged", gw_prism_family(level, 8, x, 8, y, 8, z, 8, kind, 8));
+    return 0;
+}
