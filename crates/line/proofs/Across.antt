@@ -1,26 +1,25 @@
--- The four ways out of a line's neighbour. Assumes nothing.
-use mathlib.Core.Path.{_≡_}
-use Prim.Native.Nat.{ℕ, _+_, _-_, _^_, _≤_, _<_}
-use borrow.Author.Tests.{lt-ltb, le-ltb, le-leb, lt-leb}
-use Rattle.paper.specs.Outcome.{accepted, refused}
-use Rattle.tree.specs.Anchors.{side}
+-- The two ways out of a line's neighbour. Assumes nothing.
+use mathlib.Core.Path.{_≡_, ap, _∙_, sym}
+use mathlib.Core.Bool.{Bool, true, cond}
+use Prim.Native.Nat.{ℕ, _*_}
+use Rattle.paper.specs.Outcome.{Outcome, accepted, refused, refuse-when}
+use Rattle.tree.specs.Anchors.{side, moved, leaves}
+use Rattle.tree.proofs.Move.{moved-gone, moved-stays, moved-is}
 use Rattle.line.specs.declared.Line.{Line}
 use Rattle.line.specs.Elements.{neighbour}
 
--- h is the side, as the code has it
-module _ (L : ℕ) (e : Line) (i h : ℕ) (sized : h ≡ side L (e .level)) where
-  pub lower-refused-10 : i ≡ 0 → e .x < h → refused 10 0 ≡ neighbour L e i
-  unfolding neighbour
-  lower-refused-10 low out = rw low (simp (lt-ltb (e .x) (side L (e .level)) (rw sized at out)))
+-- h is the side and r the moved coordinate, as the code has them
+module _ (e : Line) (i h r : ℕ) (sized : h ≡ side 21 (e .level)) (read : r ≡ cond (leaves 21 h (2 * i) (e .x)) 4294967295 (moved h (2 * i) (e .x))) where
+  -- the definition, with the code's side
+  across-is : refuse-when (leaves 21 h (2 * i) (e .x)) 10 (accepted (record { x = moved h (2 * i) (e .x); level = e .level })) ≡ neighbour 21 e i
+  across-is =
+      ap (λ (k : ℕ). refuse-when (leaves 21 k (2 * i) (e .x)) 10 (accepted (record { x = moved k (2 * i) (e .x); level = e .level }))) sized
 
-  pub lower-accepted : i ≡ 0 → h ≤ e .x → accepted (record { x = e .x - h; level = e .level }) ≡ neighbour L e i
-  unfolding neighbour
-  lower-accepted low inside = rw (low, sized) (simp (le-ltb (e .x) (side L (e .level)) (rw sized at inside)))
+  pub across-refused-10 : r ≡ 4294967295 → refused 10 0 ≡ neighbour 21 e i
+  across-refused-10 gone = sym (simp (moved-gone h (2 * i) (e .x) r read gone)) ∙ across-is
 
-  pub upper-refused-10 : i ≡ 1 → 2 ^ L ≤ e .x + h → refused 10 0 ≡ neighbour L e i
-  unfolding neighbour
-  upper-refused-10 high out = rw high (simp (le-leb (2 ^ L) (e .x + side L (e .level)) (rw sized at out)))
-
-  pub upper-accepted : i ≡ 1 → e .x + h < 2 ^ L → accepted (record { x = e .x + h; level = e .level }) ≡ neighbour L e i
-  unfolding neighbour
-  upper-accepted high inside = rw (high, sized) (simp (lt-leb (2 ^ L) (e .x + side L (e .level)) (rw sized at inside)))
+  pub across-accepted : (r ≡ 4294967295 → ⊥) → accepted (record { x = r; level = e .level }) ≡ neighbour 21 e i
+  across-accepted here =
+      ap (λ (k : ℕ). accepted (record { x = k; level = e .level })) (moved-is h (2 * i) (e .x) r read here)
+      ∙ sym (simp (moved-stays h (2 * i) (e .x) r read here))
+      ∙ across-is

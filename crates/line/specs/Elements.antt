@@ -12,12 +12,12 @@
 -- Assumes nothing.
 use mathlib.Core.Bool.{_&&_}
 use mathlib.Core.List.{List}
-use Prim.Native.Nat.{ℕ, zero, suc, _+_, _-_, _*_, _^_}
-use lib.Dec.{leb, ltb, eqb}
+use Prim.Native.Nat.{ℕ, suc, _+_, _-_, _*_}
+use lib.Dec.{ltb, eqb}
 use lib.ListN.{length, getD}
 use Rattle.paper.specs.Outcome.{Outcome, accepted, refused, refuse-when, fault-when, rows}
 use Rattle.tree.specs.Shape.{Shape}
-use Rattle.tree.specs.Anchors.{side, offGrid, rounded, bitAt}
+use Rattle.tree.specs.Anchors.{side, offGrid, rounded, bitAt, moved, leaves}
 use Rattle.line.specs.declared.Line.{Line}
 use Rattle.line.specs.declared.LineAnswer.{LineAnswer}
 use Rattle.line.specs.declared.LineAnswer.the-variants.{Is, Refused}
@@ -35,13 +35,11 @@ module _ (L : ℕ) where
   abbrev pub number : Line → ℕ
   number e = bitAt L (e .level) (e .x)
 
-  unfoldable pub neighbour : Line → ℕ → Outcome Line
-  neighbour e zero =
-      refuse-when (ltb (e .x) (side L (e .level))) 10
-      (accepted (record { x = e .x - side L (e .level); level = e .level }))
-  neighbour e (suc i) =
-      refuse-when (leb (2 ^ L) (e .x + side L (e .level))) 10
-      (accepted (record { x = e .x + side L (e .level); level = e .level }))
+  -- face 0 is 0 sides from -1 on, face 1 is 2
+  abbrev pub neighbour : Line → ℕ → Outcome Line
+  neighbour e i =
+      refuse-when (leaves L (side L (e .level)) (2 * i) (e .x)) 10
+      (accepted (record { x = moved (side L (e .level)) (2 * i) (e .x); level = e .level }))
 
   unfoldable pub lineTo : Shape Line
   lineTo =

@@ -73,23 +73,11 @@ impl Line {
         ensures { λ r. ⌜ elementOf r ≡ line .neighbour self face ⌝ }
     {
         let level = self.level;
-        let h = tree::side(level);
-        if face == 0 {
-            if self.x < h {
-                return LineAnswer::Refused(10, 0);
-            }
-            return LineAnswer::Is(Line {
-                x: self.x - h,
-                level,
-            });
-        }
-        if 2097152 <= self.x + h {
+        let x = tree::moved(self.x, 2 * face, tree::side(level));
+        if x == tree::GONE {
             return LineAnswer::Refused(10, 0);
         }
-        LineAnswer::Is(Line {
-            x: self.x + h,
-            level,
-        })
+        LineAnswer::Is(Line { x, level })
     }
 }
 

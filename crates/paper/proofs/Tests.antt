@@ -1,6 +1,6 @@
 -- What a passed or failed test makes of a call: one law for each way out. Assumes nothing.
 use mathlib.Core.Path.{_≡_, refl}
-use mathlib.Core.Bool.{Bool, true, false}
+use mathlib.Core.Bool.{_||_, true≢false, Bool, true, false}
 use Prim.Native.Nat.{ℕ, suc}
 use native.Mathlib.Omega.{arith}
 use Rattle.paper.specs.Outcome.{Outcome, refused, refuse-when-at, fault-when}
@@ -15,3 +15,8 @@ passed-by test number place rest fails = simp fails
 pub no-fault : (test : Bool) (number rest : ℕ) → fault-when test (suc number) rest ≡ 0 → (test ≡ false) × (rest ≡ 0)
 no-fault true number rest h = absurd (omega arith)
 no-fault false number rest h = (refl, h)
+
+-- neither of two tests holds
+pub or-none : (a b : Bool) → (a || b) ≡ false → (a ≡ false) × (b ≡ false)
+or-none true b h = absurd (true≢false h)
+or-none false b h = (refl, h)

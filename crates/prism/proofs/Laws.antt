@@ -6,7 +6,7 @@ use Prim.Native.Nat.{ℕ, _+_, _*_, _/_, _%_, _<_}
 use native.Mathlib.Omega.{arith}
 use lib.Dec.{ltb, eqb}
 use borrow.Author.Tests.{le-ltb, ltb-false, eq-eqb, eqb-true, not-false}
-use Rattle.paper.proofs.Tests.{no-fault}
+use Rattle.paper.proofs.Tests.{no-fault, or-none}
 use Rattle.tree.specs.Anchors.{offGrid}
 use Rattle.tree.specs.Laws.{Lawful}
 use Rattle.tree.proofs.Digits.{digit-div, digit-mod}
@@ -22,10 +22,6 @@ use Rattle.prism.specs.Elements.{prismTo, fault, triangleOf, lineOf, joi
 
 pub prism-path : (e f : Prism) → e .x ≡ f .x → e .y ≡ f .y → e .z ≡ f .z → e .level ≡ f .level → e .kind ≡ f .kind → e ≡ f
 prism-path e f p q r s t = λ i. record { x = p i; y = q i; z = r i; level = s i; kind = t i }
-
-or-none : (a b : Bool) → (a || b) ≡ false → (a ≡ false) × (b ≡ false)
-or-none true b h = absurd (true≢false h)
-or-none false b h = (refl, h)
 
 module _ (L : ℕ) where
   -- ---- a sound prism is a sound triangle times a sound line

@@ -39,15 +39,6 @@ line-never r n p f made read = never n p f (sym (ap line.elementOf made) ∙ rea
 
 module _ (L : ℕ) where
   -- ---- the neighbour: across a side, below and above
-  pub across-side : (e : Prism) (i : ℕ) → i < 3
-      → neighbour L e i ≡ mapped (λ (t : Triangle). joined t (lineOf e)) (triangle.neighbour L (triangleOf e) i)
-  unfolding neighbour
-  across-side e i small = simp (lt-ltb i 3 small)
-
-  pub across-end : (e : Prism) (i : ℕ) → 3 ≤ i
-      → neighbour L e i ≡ mapped (λ (m : Line). joined (triangleOf e) m) (line.neighbour L (lineOf e) (i - 3))
-  unfolding neighbour
-  across-end e i large = simp (le-ltb i 3 large)
 
   -- ---- descendants, side by side
   descend-parts : (i k : ℕ) (e : Prism)

@@ -10,6 +10,7 @@ ghost use Rattle.tree.specs.Calls;
 ghost use Rattle.prism.specs.Elements.{prism, elementOf, equalColumns, elements};
 
 mod family;
+pub mod rows;
 mod work;
 
 #[repr(C)]

@@ -1,12 +1,12 @@
-// What the calls do once their tests have passed. Each function asks for just what those tests have shown. A step to a relative is
-// the triangle's and the line's own, side by side; only the two loops over the levels go in one.
+// What the calls do once their tests have passed. Each function asks for just what those tests have shown. A step up or down is
+// the triangle's and the line's own, side by side; the two loops over the levels and the step across a face go in one.
 use crate::Prism;
 use crate::PrismAnswer;
+use crate::rows;
 use line::Line;
 use line::LineAnswer;
 use triangle::Triangle;
 use triangle::TriangleAnswer;
-use triangle::rows;
 ghost use mathlib.Core.Path.{_≡_};
 ghost use Prim.Native.Nat.{_^_, _≤_, _<_};
 ghost use Rattle.tree.specs.Words;
@@ -120,16 +120,31 @@ impl Prism {
         requires { ⌜ (prism .fault self ≡ 0) × (face < 5) ⌝ }
         ensures { λ r. ⌜ elementOf r ≡ prism .neighbour self face ⌝ }
     {
-        if face < 3 {
-            return match self.plan().neighbour(face) {
-                TriangleAnswer::Is(t) => PrismAnswer::Is(product(t, self.upright())),
-                TriangleAnswer::Refused(number, place) => PrismAnswer::Refused(number, place),
-            };
+        let h = tree::side(self.level);
+        let s = rows::side_row(self.kind, face);
+        let x = tree::moved(self.x, s.x, h);
+        if x == tree::GONE {
+            return PrismAnswer::Refused(10, 0);
         }
-        match self.upright().neighbour(face - 3) {
-            LineAnswer::Is(m) => PrismAnswer::Is(product(self.plan(), m)),
-            LineAnswer::Refused(number, place) => PrismAnswer::Refused(number, place),
+        let y = tree::moved(self.y, s.y, h);
+        if y == tree::GONE {
+            return PrismAnswer::Refused(10, 0);
         }
+        let z = tree::moved(self.z, s.z, h);
+        if z == tree::GONE {
+            return PrismAnswer::Refused(10, 0);
+        }
+        let kind = s.kind;
+        if triangle::outside(kind, x, y) {
+            return PrismAnswer::Refused(10, 0);
+        }
+        PrismAnswer::Is(Prism {
+            x,
+            y,
+            z,
+            level: self.level,
+            kind,
+        })
     }
 
     // Up the ancestors, one digit a level, the lowest first: in units of its side an anchor's last bit is the step's.
@@ -146,7 +161,7 @@ impl Prism {
         let mut sum = 0u64;
         let mut i = 0u8;
         while i < level {
-            let p = rows::place_of(x, y, kind);
+            let p = triangle::rows::place_of(x, y, kind);
             sum += (4 * (z % 2) as u64 + p.number as u64) << (3 * i);
             x /= 2;
             y /= 2;
@@ -192,7 +207,7 @@ pub(crate) fn placed(level: u8, position: u64) -> Prism
     while 0 < left {
         left -= 1;
         let d = ((position >> (3 * left)) % 8) as u8;
-        let s = rows::child_row(kind, d % 4);
+        let s = triangle::rows::child_row(kind, d % 4);
         x = 2 * x + s.x as u32;
         y = 2 * y + s.y as u32;
         z = 2 * z + (d / 4) as u32;

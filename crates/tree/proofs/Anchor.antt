@@ -8,11 +8,8 @@ use native.Mathlib.Omega.{arith}
 use lib.Dec.{leb, eqb}
 use lib.Pow.{pow-pos, pow-mono, pow-add}
 use borrow.Author.Tests.{lt-leb, leb-false, eq-eqb, ne-eqb, eqb-true, eqb-false, not-false}
+use Rattle.paper.proofs.Tests.{or-none}
 use Rattle.tree.specs.Anchors.{side, offGrid, rounded, bitAt}
-
-or-false : (a b : Bool) → (a || b) ≡ false → (a ≡ false) × (b ≡ false)
-or-false true b h = absurd (true≢false h)
-or-false false b h = (refl, h)
 
 -- two tests for equality that hold together
 test-same : (a b c d : ℕ) → (a ≡ b → c ≡ d) → (c ≡ d → a ≡ b) → eqb a b ≡ eqb c d
@@ -69,11 +66,11 @@ module _ (L : ℕ) where
 
   pub grid-units : (l x : ℕ) → offGrid L l x ≡ false → x / side L l * side L l ≡ x
   grid-units l x on =
-      let whole : x % side L l ≡ 0 = eqb-true (x % side L l) 0 (not-false (eqb (x % side L l) 0) (or-false (leb (2 ^ L) x) (not (eqb (x % side L l) 0)) on .1)) in
+      let whole : x % side L l ≡ 0 = eqb-true (x % side L l) 0 (not-false (eqb (x % side L l) 0) (or-none (leb (2 ^ L) x) (not (eqb (x % side L l) 0)) on .1)) in
       omega (arith, div-add-mod' x (side L l))
 
   pub grid-lt : (l x : ℕ) → offGrid L l x ≡ false → x < 2 ^ L
-  grid-lt l x on = leb-false (2 ^ L) x (or-false (leb (2 ^ L) x) (not (eqb (x % side L l) 0)) on .0)
+  grid-lt l x on = leb-false (2 ^ L) x (or-none (leb (2 ^ L) x) (not (eqb (x % side L l) 0)) on .0)
 
   pub units-lt : (l x : ℕ) → l ≤ L → offGrid L l x ≡ false → x / side L l < 2 ^ l
   units-lt l x shallow on = div-lt-iff-lt-mul (side-pos l) .1 (rw side-edge (grid-lt l x on))

@@ -16,3 +16,7 @@ below-3 P p0 p1 p2 (suc (suc (suc i))) small = absurd (omega arith)
 pub below-4 : (P : ℕ → Type 0) → P 0 → P 1 → P 2 → P 3 → (i : ℕ) → i < 4 → P i
 below-4 P p0 p1 p2 p3 zero small = p0
 below-4 P p0 p1 p2 p3 (suc i) small = below-3 (λ (k : ℕ). P (suc k)) p1 p2 p3 i (omega arith)
+
+pub below-5 : (P : ℕ → Type 0) → P 0 → P 1 → P 2 → P 3 → P 4 → (i : ℕ) → i < 5 → P i
+below-5 P p0 p1 p2 p3 p4 zero small = p0
+below-5 P p0 p1 p2 p3 p4 (suc i) small = below-4 (λ (k : ℕ). P (suc k)) p1 p2 p3 p4 i (omega arith)

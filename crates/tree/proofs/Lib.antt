@@ -1,6 +1,7 @@
 pub mod Cases
 pub mod Digits
 pub mod Anchor
+pub mod Move
 pub mod RoundTrip
 pub mod Descent
 pub mod Ordering

@@ -4,11 +4,13 @@
 --   offGrid L l x   "An anchor is a multiple of h below 2^21 in each coordinate": x is not
 --   rounded L l x   the coordinate of the ancestor of level l: the multiple of its side at or below x
 --   bitAt L l x     the "anchor bit at its level": whether x is one side of level l above the ancestor of the level before
+--   moved h s x     x moved by s - 1 sides of length h: 0 is -h, 1 stays and 2 is +h
+--   leaves L h s x  whether that leaves the root's edge
 --
 -- Assumes nothing.
 use mathlib.Core.Bool.{Bool, not, _||_}
-use Prim.Native.Nat.{ℕ, _-_, _*_, _/_, _%_, _^_}
-use lib.Dec.{leb, eqb}
+use Prim.Native.Nat.{ℕ, _+_, _-_, _*_, _/_, _%_, _^_}
+use lib.Dec.{leb, ltb, eqb}
 
 abbrev pub side : ℕ → ℕ → ℕ
 side L l = 2 ^ (L - l)
@@ -21,3 +23,9 @@ rounded L l x = x / side L l * side L l
 
 abbrev pub bitAt : ℕ → ℕ → ℕ → ℕ
 bitAt L l x = x / side L l % 2
+
+abbrev pub moved : ℕ → ℕ → ℕ → ℕ
+moved h s x = x + s * h - h
+
+abbrev pub leaves : ℕ → ℕ → ℕ → ℕ → Bool
+leaves L h s x = ltb (x + s * h) h || leb (2 ^ L) (moved h s x)

@@ -1,17 +1,18 @@
 // What the code of the three shapes shares.
 use paper::OrderAnswer;
 ghost use mathlib.Core.Path.{_≡_};
+ghost use mathlib.Core.Bool.{cond};
 ghost use Rattle.paper.specs.Outcome.{accepted, same};
 ghost use Rattle.paper.specs.Readings.{orderOf};
 ghost use Rattle.tree.specs.Anchors as anchors;
-ghost use Rattle.tree.specs.Anchors.{offGrid, bitAt};
+ghost use Rattle.tree.specs.Anchors.{offGrid, bitAt, leaves};
 ghost use Rattle.tree.specs.Words.{compared};
 
 // The side of a level.
 pub fn side(level: u8) -> u32
     ensures { λ r. ⌜ r ≡ anchors.side 21 level ⌝ }
 {
-    if 21 <= level {
+    if 21 < level {
         return 1;
     }
     1u32 << (21 - level)
@@ -21,7 +22,7 @@ pub fn side(level: u8) -> u32
 pub fn rounded(level: u8, x: u32) -> u32
     ensures { λ r. ⌜ r ≡ anchors.rounded 21 level x ⌝ }
 {
-    if 21 <= level {
+    if 21 < level {
         return x;
     }
     let s = 21 - level;
@@ -32,7 +33,7 @@ pub fn rounded(level: u8, x: u32) -> u32
 pub fn bit(level: u8, x: u32) -> u32
     ensures { λ r. ⌜ r ≡ bitAt 21 level x ⌝ }
 {
-    if 21 <= level {
+    if 21 < level {
         return x % 2;
     }
     (x >> (21 - level)) % 2
@@ -47,6 +48,25 @@ pub fn off_grid(level: u8, x: u32) -> bool
         return true;
     }
     rounded(level, x) != x
+}
+
+// The answer of `moved` where the coordinate leaves the edge: no anchor is as large.
+pub const GONE: u32 = 4294967295;
+
+// A coordinate moved by step - 1 sides of length h, or GONE where that leaves the root's edge.
+pub fn moved(x: u32, step: u8, h: u32) -> u32
+    ensures { λ r. ⌜ r ≡ cond (leaves 21 h step x) 4294967295 (anchors.moved h step x) ⌝ }
+{
+    let far = x as u64 + step as u64 * h as u64;
+    let h = h as u64;
+    if far < h {
+        return GONE;
+    }
+    let to = far - h;
+    if 2097152 <= to {
+        return GONE;
+    }
+    to as u32
 }
 
 // The order of two elements by where their first descendants of level 21 stand, then by level.

@@ -1,14 +1,15 @@
 -- The ways out of a triangle's neighbour: the two coordinates, one after the other, then the type. Assumes nothing.
-use mathlib.Core.Path.{_≡_, refl, ap, _∙_, sym}
-use mathlib.Core.Bool.{Bool, true, false, not, _||_}
+use mathlib.Core.Path.{_≡_, refl, ap, ap₂, _∙_, sym}
+use mathlib.Core.Bool.{cond, Bool, true, false, not, _||_}
 use Prim.Native.Nat.{ℕ, zero, suc, _+_, _-_, _*_, _^_, _≤_, _<_}
 use lib.Dec.{leb, ltb}
 use borrow.Author.Tests.{lt-ltb, le-ltb, le-leb, lt-leb, ltb-true, ltb-false, leb-true, leb-false}
 use Rattle.paper.specs.Outcome.{accepted, refused, refuse-when}
-use Rattle.tree.specs.Anchors.{side}
+use Rattle.tree.specs.Anchors.{side, moved, leaves}
+use Rattle.tree.proofs.Move.{moved-gone, moved-stays, moved-is}
 use Rattle.triangle.specs.declared.rows.Step.{Step}
 use Rattle.triangle.specs.declared.Triangle.{Triangle}
-use Rattle.triangle.specs.Elements.{insideRoot, moved, leaves, acrossBy}
+use Rattle.triangle.specs.Elements.{insideRoot, acrossBy}
 
 -- ---- outside the root, by type
 not-leb : (x y : ℕ) → ltb x y ≡ not (leb y x)
@@ -32,48 +33,44 @@ pub outside-other : (t x y : ℕ) → (t ≡ 0 → ⊥) → leb x y ≡ not (ins
 outside-other zero x y other = absurd (other refl)
 outside-other (suc t) x y other = not-ltb x y
 
--- ---- across a face. s is its row, h the side as the code has it; x and y are moved by s, a side too far
-module _ (L : ℕ) (e : Triangle) (s : Step) (h : ℕ) (sized : h ≡ side L (e .level)) where
-  abbrev farX : ℕ
-  farX = e .x + s .x * h
-
-  abbrev farY : ℕ
-  farY = e .y + s .y * h
-
-  -- the test of the definition, with the code's side
+-- ---- across a face. s is its row; h is the side, x and y the moved coordinates, as the code has them
+module _ (e : Triangle) (s : Step) (h x y : ℕ) (sized : h ≡ side 21 (e .level))
+    (at-x : x ≡ cond (leaves 21 h (s .x) (e .x)) 4294967295 (moved h (s .x) (e .x)))
+    (at-y : y ≡ cond (leaves 21 h (s .y) (e .y)) 4294967295 (moved h (s .y) (e .y))) where
+  -- the definition, with the code's side
   abbrev out : Bool
-  out = leaves L h (s .x) (e .x) || (leaves L h (s .y) (e .y) || not (insideRoot (s .kind) (moved h (s .x) (e .x)) (moved h (s .y) (e .y))))
+  out = leaves 21 h (s .x) (e .x) || (leaves 21 h (s .y) (e .y) || not (insideRoot (s .kind) (moved h (s .x) (e .x)) (moved h (s .y) (e .y))))
 
   abbrev there : Triangle
-  there = record { x = farX - h; y = farY - h; level = e .level; kind = s .kind }
+  there = record { x = moved h (s .x) (e .x); y = moved h (s .y) (e .y); level = e .level; kind = s .kind }
 
-  across-is : refuse-when out 10 (accepted there) ≡ acrossBy L e s
+  across-is : refuse-when out 10 (accepted there) ≡ acrossBy 21 e s
   across-is =
       ap
       (λ (k : ℕ).
-      refuse-when (leaves L k (s .x) (e .x) || (leaves L k (s .y) (e .y) || not (insideRoot (s .kind) (moved k (s .x) (e .x)) (moved k (s .y) (e .y))))) 10
+      refuse-when (leaves 21 k (s .x) (e .x) || (leaves 21 k (s .y) (e .y) || not (insideRoot (s .kind) (moved k (s .x) (e .x)) (moved k (s .y) (e .y))))) 10
       (accepted (record { x = moved k (s .x) (e .x); y = moved k (s .y) (e .y); level = e .level; kind = s .kind })))
       sized
 
-  pub below-x : farX < h → refused 10 0 ≡ acrossBy L e s
-  below-x low = sym (simp (lt-ltb farX h low)) ∙ across-is
+  pub gone-x : x ≡ 4294967295 → refused 10 0 ≡ acrossBy 21 e s
+  gone-x gone = sym (simp (moved-gone h (s .x) (e .x) x at-x gone)) ∙ across-is
 
-  pub above-x : h ≤ farX → 2 ^ L ≤ farX - h → refused 10 0 ≡ acrossBy L e s
-  above-x low high = sym (simp (le-ltb farX h low, le-leb (2 ^ L) (farX - h) high)) ∙ across-is
+  module _ (here-x : x ≡ 4294967295 → ⊥) where
+    pub gone-y : y ≡ 4294967295 → refused 10 0 ≡ acrossBy 21 e s
+    gone-y gone = sym (simp (moved-stays h (s .x) (e .x) x at-x here-x, moved-gone h (s .y) (e .y) y at-y gone)) ∙ across-is
 
-  pub below-y : h ≤ farX → farX - h < 2 ^ L → farY < h → refused 10 0 ≡ acrossBy L e s
-  below-y low high low-y = sym (simp (le-ltb farX h low, lt-leb (2 ^ L) (farX - h) high, lt-ltb farY h low-y)) ∙ across-is
+    module _ (here-y : y ≡ 4294967295 → ⊥) where
+      -- the test of the root, at the moved coordinates
+      placed : (t : Bool) → not (insideRoot (s .kind) x y) ≡ t → not (insideRoot (s .kind) (moved h (s .x) (e .x)) (moved h (s .y) (e .y))) ≡ t
+      placed t test =
+          ap₂ (λ (a b : ℕ). not (insideRoot (s .kind) a b)) (sym (moved-is h (s .x) (e .x) x at-x here-x)) (sym (moved-is h (s .y) (e .y) y at-y here-y)) ∙ test
 
-  pub above-y : h ≤ farX → farX - h < 2 ^ L → h ≤ farY → 2 ^ L ≤ farY - h → refused 10 0 ≡ acrossBy L e s
-  above-y low high low-y high-y =
-      sym (simp (le-ltb farX h low, lt-leb (2 ^ L) (farX - h) high, le-ltb farY h low-y, le-leb (2 ^ L) (farY - h) high-y)) ∙ across-is
+      pub beyond : not (insideRoot (s .kind) x y) ≡ true → refused 10 0 ≡ acrossBy 21 e s
+      beyond outside =
+          sym (simp (moved-stays h (s .x) (e .x) x at-x here-x, moved-stays h (s .y) (e .y) y at-y here-y, placed true outside)) ∙ across-is
 
-  pub beyond : h ≤ farX → farX - h < 2 ^ L → h ≤ farY → farY - h < 2 ^ L → not (insideRoot (s .kind) (farX - h) (farY - h)) ≡ true
-      → refused 10 0 ≡ acrossBy L e s
-  beyond low high low-y high-y outside =
-      sym (simp (le-ltb farX h low, lt-leb (2 ^ L) (farX - h) high, le-ltb farY h low-y, lt-leb (2 ^ L) (farY - h) high-y, outside)) ∙ across-is
-
-  pub within : h ≤ farX → farX - h < 2 ^ L → h ≤ farY → farY - h < 2 ^ L → not (insideRoot (s .kind) (farX - h) (farY - h)) ≡ false
-      → accepted there ≡ acrossBy L e s
-  within low high low-y high-y inside =
-      sym (simp (le-ltb farX h low, lt-leb (2 ^ L) (farX - h) high, le-ltb farY h low-y, lt-leb (2 ^ L) (farY - h) high-y, inside)) ∙ across-is
+      pub within : not (insideRoot (s .kind) x y) ≡ false → accepted (record { x = x; y = y; level = e .level; kind = s .kind }) ≡ acrossBy 21 e s
+      within inside =
+          ap₂ (λ (a b : ℕ). accepted (record { x = a; y = b; level = e .level; kind = s .kind })) (moved-is h (s .x) (e .x) x at-x here-x) (moved-is h (s .y) (e .y) y at-y here-y)
+          ∙ sym (simp (moved-stays h (s .x) (e .x) x at-x here-x, moved-stays h (s .y) (e .y) y at-y here-y, placed false inside))
+          ∙ across-is

@@ -7,7 +7,7 @@ use native.Mathlib.Nat.{zero-div, mul-le-mul-right, le-of-mul-le-mul-right, lt-o
 use native.Mathlib.Omega.{arith}
 use lib.Dec.{ltb, eqb}
 use borrow.Author.Tests.{le-ltb, ltb-false, ltb-true, lt-ltb, le-leb, leb-true, eq-eqb, eqb-true, not-false}
-use Rattle.paper.proofs.Tests.{no-fault}
+use Rattle.paper.proofs.Tests.{no-fault, or-none}
 use Rattle.tree.specs.Anchors.{side, offGrid, rounded, bitAt}
 use Rattle.tree.specs.Laws.{Lawful}
 use Rattle.tree.proofs.Anchor.{side-pos, grid-zero, zero-grid, grid-units, units-child, units-rounded, child-grid, child-rounded, child-bit, parent-grid, parent-split, bit-lt}
@@ -30,10 +30,6 @@ pub units-inside : (t h u v : ℕ) → t < 2 → 0 < h → v + t ≤ u → insid
 units-inside zero h u v kind positive inside = le-leb (v * h) (u * h) (mul-le-mul-right h (omega arith))
 units-inside (suc zero) h u v kind positive inside = lt-ltb (v * h) (u * h) (mul-lt-mul-of-pos-right (omega arith) positive)
 units-inside (suc (suc t)) h u v kind positive inside = absurd (omega arith)
-
-or-none : (a b : Bool) → (a || b) ≡ false → (a ≡ false) × (b ≡ false)
-or-none true b h = absurd (true≢false h)
-or-none false b h = (refl, h)
 
 -- ---- what soundness says
 pub record Known (L : ℕ) (e : Triangle) : Type 0 where

@@ -21,7 +21,7 @@ use lib.Dec.{leb, ltb, eqb}
 use lib.ListN.{length, getD}
 use Rattle.paper.specs.Outcome.{Outcome, accepted, refused, refuse-when, fault-when, rows}
 use Rattle.tree.specs.Shape.{Shape}
-use Rattle.tree.specs.Anchors.{side, offGrid, rounded, bitAt}
+use Rattle.tree.specs.Anchors.{side, offGrid, rounded, bitAt, moved, leaves}
 use Rattle.triangle.specs.declared.rows.Step.{Step}
 use Rattle.triangle.specs.declared.Triangle.{Triangle}
 use Rattle.triangle.specs.declared.TriangleAnswer.{TriangleAnswer}
@@ -32,13 +32,6 @@ use Rattle.triangle.specs.Rows.{step, childRow, parentKind, numberOf, fa
 abbrev pub insideRoot : ℕ → ℕ → ℕ → Bool
 insideRoot zero x y = leb y x
 insideRoot (suc t) x y = ltb y x
-
--- one coordinate moved by s - 1 sides of length h, and whether that leaves the edge
-abbrev pub moved : ℕ → ℕ → ℕ → ℕ
-moved h s x = x + s * h - h
-
-abbrev pub leaves : ℕ → ℕ → ℕ → ℕ → Bool
-leaves L h s x = ltb (x + s * h) h || leb (2 ^ L) (moved h s x)
 
 module _ (L : ℕ) where
   abbrev pub fault : Triangle → ℕ

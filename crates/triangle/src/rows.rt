@@ -38,8 +38,8 @@ const FACE_KIND: [[u8; 3]; 2] = [[1, 1, 1], [0, 0, 0]];
 pub fn child_row(kind: u8, number: u8) -> Step
     ensures { λ r. ⌜ r ≡ childRow (kind % 2) (number % 4) ⌝ }
 {
-    let t = (kind % 2) as usize;
-    let i = (number % 4) as usize;
+    let t = kind as usize % 2;
+    let i = number as usize % 4;
     Step {
         x: CHILD_X[t][i],
         y: CHILD_Y[t][i],
@@ -50,7 +50,7 @@ pub fn child_row(kind: u8, number: u8) -> Step
 pub fn place_of(x: u32, y: u32, kind: u8) -> Place
     ensures { λ r. ⌜ (r .kind ≡ parentKind (step (x % 2) (y % 2) (kind % 2))) × (r .number ≡ numberOf (step (x % 2) (y % 2) (kind % 2))) ⌝ }
 {
-    let t = (kind % 2) as usize;
+    let t = kind as usize % 2;
     let i = (2 * (x % 2) + y % 2) as usize;
     Place {
         kind: PARENT_KIND[t][i],
@@ -61,8 +61,8 @@ pub fn place_of(x: u32, y: u32, kind: u8) -> Place
 pub fn face_row(kind: u8, face: u8) -> Step
     ensures { λ r. ⌜ r ≡ faceRow (kind % 2) (face % 3) ⌝ }
 {
-    let t = (kind % 2) as usize;
-    let i = (face % 3) as usize;
+    let t = kind as usize % 2;
+    let i = face as usize % 3;
     Step {
         x: FACE_X[t][i],
         y: FACE_Y[t][i],

@@ -129,20 +129,12 @@ impl Triangle {
     {
         let h = tree::side(self.level);
         let s = rows::face_row(self.kind, face);
-        let x = self.x + (s.x as u32) * h;
-        if x < h {
+        let x = tree::moved(self.x, s.x, h);
+        if x == tree::GONE {
             return TriangleAnswer::Refused(10, 0);
         }
-        let x = x - h;
-        if 2097152 <= x {
-            return TriangleAnswer::Refused(10, 0);
-        }
-        let y = self.y + (s.y as u32) * h;
-        if y < h {
-            return TriangleAnswer::Refused(10, 0);
-        }
-        let y = y - h;
-        if 2097152 <= y {
+        let y = tree::moved(self.y, s.y, h);
+        if y == tree::GONE {
             return TriangleAnswer::Refused(10, 0);
         }
         let kind = s.kind;

@@ -11,11 +11,8 @@ use Rattle.tree.proofs.rounded.Tie as tie
 returns : tie.Need-returns
 returns c =
     let x = c .before .args .x in
-    let one = side-smallest 21 (c .before .args .level) (c .if1 .taken) in
+    let one = side-smallest 21 (c .before .args .level) (omega arith) in
     sym (ap (λ (h : ℕ). x / h * h) one ∙ mul-one (x / 1) ∙ div-one x)
-
-sub-s : tie.Need-sub-s
-sub-s c = search needs
 
 cast-result : tie.Need-cast-result
 cast-result c = search needs
@@ -34,4 +31,4 @@ returns-2 c = shift-back (c .before .args .x) (21 - c .before .args .level) 4294
 
 pub rounded-spec : {M : Type 1} → statement M
 rounded-spec =
-    tie.close (tie.spec returns sub-s cast-result shr-result cast-result-2 shl-result returns-2)
+    tie.close (tie.spec returns cast-result shr-result cast-result-2 shl-result returns-2)

@@ -1,6 +1,6 @@
 -- `tree::side` meets its contract: a shifted 1 is the power of two. Assumes nothing.
 use mathlib.Core.Path.{sym}
-use Prim.Native.Nat.{_-_, _^_, _≤_}
+use Prim.Native.Nat.{_-_, _^_, _≤_, _<_}
 use native.Mathlib.Nat.{lt-of-le-of-lt}
 use native.Mathlib.Omega.{arith}
 use lib.Dec.{lit<}
@@ -11,10 +11,7 @@ use Rattle.tree.proofs.side.Statement.{statement}
 use Rattle.tree.proofs.side.Tie as tie
 
 returns : tie.Need-returns
-returns c = sym (side-smallest 21 (c .before .args .level) (c .if1 .taken))
-
-sub-result : tie.Need-sub-result
-sub-result c = search needs
+returns c = sym (side-smallest 21 (c .before .args .level) (omega arith))
 
 cast-result : tie.Need-cast-result
 cast-result c = search needs
@@ -28,4 +25,4 @@ returns-2 c =
     shifted-one (21 - c .before .args .level) 4294967296 (lt-of-le-of-lt small (lit< tt))
 
 pub side-spec : {M : Type 1} → statement M
-side-spec = tie.close (tie.spec returns sub-result cast-result shl-result returns-2)
+side-spec = tie.close (tie.spec returns cast-result shl-result returns-2)

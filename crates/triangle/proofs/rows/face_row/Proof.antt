@@ -1,7 +1,7 @@
 -- `face_row` reads the rows that the definition has: six entries, computed. Assumes nothing.
 use mathlib.Core.Path.{_≡_, refl}
 use mathlib.Core.List.{[], _∷_}
-use Prim.Native.Nat.{ℕ, _%_}
+use Prim.Native.Nat.{ℕ, _-_, _%_, _<_}
 use native.Mathlib.Nat.{mod-lt}
 use lib.Dec.{lit<}
 use lib.ListN.{getD}
@@ -11,20 +11,14 @@ use Rattle.triangle.proofs.Tables.{each-face}
 use Rattle.triangle.proofs.rows.face_row.Statement.{statement}
 use Rattle.triangle.proofs.rows.face_row.Tie as tie
 
-cast-t : tie.Need-cast-t
-cast-t c = search needs
+mul-t5 : tie.Need-mul-t5
+mul-t5 c = search needs
 
-cast-i : tie.Need-cast-i
-cast-i c = search needs
+index-1-t13 : tie.Need-index-1-t13
+index-1-t13 c = search needs
 
-mul-t9 : tie.Need-mul-t9
-mul-t9 c = search needs
-
-index-1-t5 : tie.Need-index-1-t5
-index-1-t5 c = search needs
-
-index-2-t5 : tie.Need-index-2-t5
-index-2-t5 c = search needs
+index-2-t13 : tie.Need-index-2-t13
+index-2-t13 c = search needs
 
 mul-t17 : tie.Need-mul-t17
 mul-t17 c = search needs
@@ -55,11 +49,9 @@ pub face-row-spec : {M : Type 1} → statement M
 face-row-spec =
     tie.close
     (tie.spec
-    cast-t
-    cast-i
-    mul-t9
-    index-1-t5
-    index-2-t5
+    mul-t5
+    index-1-t13
+    index-2-t13
     mul-t17
     index-1-t22
     index-2-t22

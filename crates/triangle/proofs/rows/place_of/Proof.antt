@@ -1,7 +1,7 @@
 -- `place_of` reads the child rows the other way round: eight entries, computed. Assumes nothing.
 use mathlib.Core.Path.{_≡_, refl}
 use mathlib.Core.List.{[], _∷_}
-use Prim.Native.Nat.{ℕ, _+_, _*_, _%_}
+use Prim.Native.Nat.{ℕ, _+_, _-_, _*_, _%_, _<_}
 use native.Mathlib.Nat.{mod-lt}
 use lib.Dec.{lit<}
 use lib.ListN.{getD}
@@ -10,9 +10,6 @@ use Rattle.triangle.specs.Rows.{step, parentKind, numberOf}
 use Rattle.triangle.proofs.Tables.{each-step}
 use Rattle.triangle.proofs.rows.place_of.Statement.{statement}
 use Rattle.triangle.proofs.rows.place_of.Tie as tie
-
-cast-t : tie.Need-cast-t
-cast-t c = search needs
 
 mul-i : tie.Need-mul-i
 mul-i c = search needs
@@ -23,14 +20,14 @@ add-i c = search needs
 cast-i : tie.Need-cast-i
 cast-i c = search needs
 
-mul-t14 : tie.Need-mul-t14
-mul-t14 c = search needs
+mul-t6 : tie.Need-mul-t6
+mul-t6 c = search needs
 
-index-1-t6 : tie.Need-index-1-t6
-index-1-t6 c = search needs
+index-1-t18 : tie.Need-index-1-t18
+index-1-t18 c = search needs
 
-index-2-t6 : tie.Need-index-2-t6
-index-2-t6 c = search needs
+index-2-t18 : tie.Need-index-2-t18
+index-2-t18 c = search needs
 
 mul-t22 : tie.Need-mul-t22
 mul-t22 c = search needs
@@ -53,13 +50,12 @@ pub place-of-spec : {M : Type 1} → statement M
 place-of-spec =
     tie.close
     (tie.spec
-    cast-t
     mul-i
     add-i
     cast-i
-    mul-t14
-    index-1-t6
-    index-2-t6
+    mul-t6
+    index-1-t18
+    index-2-t18
     mul-t22
     index-1-t27
     index-2-t27

@@ -1,0 +1,34 @@
+// The prism's faces in one table, read by type and face: faces 0 to 2 are the triangle's, 3 is z-h and 4 is z+h. Types and numbers
+// beyond it are taken modulo their count, so that the function answers for every input.
+ghost use mathlib.Core.Path.{_≡_};
+ghost use Prim.Native.Nat.{_%_};
+ghost use Rattle.prism.specs.Rows.{sideRow};
+
+// One entry: x step, y step, z step, type. The steps count sides from -1 on.
+pub struct Side {
+    pub x: u8,
+    pub y: u8,
+    pub z: u8,
+    pub kind: u8,
+}
+
+const SIDE_X: [[u8; 5]; 2] = [[2, 1, 1, 1, 1], [1, 1, 0, 1, 1]];
+
+const SIDE_Y: [[u8; 5]; 2] = [[1, 1, 0, 1, 1], [2, 1, 1, 1, 1]];
+
+const SIDE_Z: [[u8; 5]; 2] = [[1, 1, 1, 0, 2], [1, 1, 1, 0, 2]];
+
+const SIDE_KIND: [[u8; 5]; 2] = [[1, 1, 1, 0, 0], [0, 0, 0, 1, 1]];
+
+pub fn side_row(kind: u8, face: u8) -> Side
+    ensures { λ r. ⌜ r ≡ sideRow (kind % 2) (face % 5) ⌝ }
+{
+    let t = kind as usize % 2;
+    let i = face as usize % 5;
+    Side {
+        x: SIDE_X[t][i],
+        y: SIDE_Y[t][i],
+        z: SIDE_Z[t][i],
+        kind: SIDE_KIND[t][i],
+    }
+}

@@ -1,0 +1,39 @@
+-- What the code's answer for a moved coordinate says: GONE exactly where the move leaves the edge, since no anchor is as large; and a
+-- coordinate that stays does not leave. Assumes nothing.
+use mathlib.Core.Path.{_≡_, refl, ap, _∙_, sym}
+use mathlib.Core.Bool.{Bool, true, false, cond, _||_}
+use Prim.Native.Nat.{ℕ, _+_, _-_, _*_, _^_, _≤_, _<_}
+use native.Mathlib.Omega.{arith}
+use borrow.Author.Tests.{le-ltb, lt-leb, leb-false}
+use lib.Dec.{leb, ltb}
+use Rattle.paper.proofs.Tests.{or-none}
+use Rattle.tree.specs.Anchors.{side, moved, leaves}
+
+module _ (h s x r : ℕ) (read : r ≡ cond (leaves 21 h s x) 4294967295 (moved h s x)) where
+  pub moved-gone : r ≡ 4294967295 → leaves 21 h s x ≡ true
+  moved-gone gone = by (leaves 21 h s x) refl
+    where
+      by : (t : Bool) → leaves 21 h s x ≡ t → leaves 21 h s x ≡ true
+      by true e = e
+      by false e =
+          let here : r ≡ moved h s x = read ∙ ap (λ (t : Bool). cond t 4294967295 (moved h s x)) e in
+          let low : moved h s x < 2097152 = leb-false 2097152 (moved h s x) (or-none (ltb (x + s * h) h) (leb 2097152 (moved h s x)) e .1) in
+          absurd (omega arith)
+
+  pub moved-stays : (r ≡ 4294967295 → ⊥) → leaves 21 h s x ≡ false
+  moved-stays here = by (leaves 21 h s x) refl
+    where
+      by : (t : Bool) → leaves 21 h s x ≡ t → leaves 21 h s x ≡ false
+      by true e = absurd (here (read ∙ ap (λ (t : Bool). cond t 4294967295 (moved h s x)) e))
+      by false e = e
+
+  pub moved-is : (r ≡ 4294967295 → ⊥) → r ≡ moved h s x
+  moved-is here = read ∙ ap (λ (t : Bool). cond t 4294967295 (moved h s x)) (moved-stays here)
+
+-- ---- not moved at all
+pub still : (h x : ℕ) → moved h 1 x ≡ x
+still h x = omega arith
+
+pub still-stays : (L h x : ℕ) → x < 2 ^ L → leaves L h 1 x ≡ false
+still-stays L h x below =
+    simp (le-ltb (x + 1 * h) h (omega arith), lt-leb (2 ^ L) (moved h 1 x) (let same = still h x in omega arith))
