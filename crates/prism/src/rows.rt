@@ -12,23 +12,19 @@ pub struct Side {
     pub kind: u8,
 }
 
-const SIDE_X: [[u8; 5]; 2] = [[2, 1, 1, 1, 1], [1, 1, 0, 1, 1]];
-
-const SIDE_Y: [[u8; 5]; 2] = [[1, 1, 0, 1, 1], [2, 1, 1, 1, 1]];
-
-const SIDE_Z: [[u8; 5]; 2] = [[1, 1, 1, 0, 2], [1, 1, 1, 0, 2]];
-
-const SIDE_KIND: [[u8; 5]; 2] = [[1, 1, 1, 0, 0], [0, 0, 0, 1, 1]];
+// x step + 4 y step + 16 z step + 64 type.
+const SIDE: [[u8; 5]; 2] = [[86, 85, 81, 5, 37], [25, 21, 20, 69, 101]];
 
 pub fn side_row(kind: u8, face: u8) -> Side
     ensures { λ r. ⌜ r ≡ sideRow (kind % 2) (face % 5) ⌝ }
 {
     let t = kind as usize % 2;
     let i = face as usize % 5;
+    let v = SIDE[t][i];
     Side {
-        x: SIDE_X[t][i],
-        y: SIDE_Y[t][i],
-        z: SIDE_Z[t][i],
-        kind: SIDE_KIND[t][i],
+        x: v % 4,
+        y: v / 4 % 4,
+        z: v / 16 % 4,
+        kind: v / 64,
     }
 }

@@ -2,12 +2,25 @@
 -- coordinate that stays does not leave. Assumes nothing.
 use mathlib.Core.Path.{_≡_, refl, ap, _∙_, sym}
 use mathlib.Core.Bool.{Bool, true, false, cond, _||_}
-use Prim.Native.Nat.{ℕ, _+_, _-_, _*_, _^_, _≤_, _<_}
+use Prim.Native.Nat.{ℕ, _+_, _-_, _*_, _%_, _^_, _≤_, _<_}
+use native.Mathlib.Decide.{decLt}
 use native.Mathlib.Omega.{arith}
-use borrow.Author.Tests.{le-ltb, lt-leb, leb-false}
+use borrow.Author.Tests.{lt-ltb, le-ltb, le-leb, lt-leb, leb-false}
 use lib.Dec.{leb, ltb}
 use Rattle.paper.proofs.Tests.{or-none}
 use Rattle.tree.specs.Anchors.{side, moved, leaves}
+
+-- ---- the code's one test for the two ways to leave: `to` is far - h, modulo 2^64
+module _ (far h to : ℕ) (wraps : (to + h) % 2 ^ 64 ≡ far) (word : to < 2 ^ 64) (narrow : h < 2 ^ 32) where
+  pub test-gone : 2097152 ≤ to → (ltb far h || leb 2097152 (far - h)) ≡ true
+  test-gone large = by (decLt far h)
+    where
+      by : Dec (far < h) → (ltb far h || leb 2097152 (far - h)) ≡ true
+      by (yes below) = simp (lt-ltb far h below)
+      by (no above) = simp (le-ltb far h (omega arith), le-leb 2097152 (far - h) (omega arith))
+
+  pub test-here : to < 2097152 → ((ltb far h || leb 2097152 (far - h)) ≡ false) × (to ≡ far - h)
+  test-here small = (simp (le-ltb far h (omega arith), lt-leb 2097152 (far - h) (omega arith)), omega arith)
 
 module _ (h s x r : ℕ) (read : r ≡ cond (leaves 21 h s x) 4294967295 (moved h s x)) where
   pub moved-gone : r ≡ 4294967295 → leaves 21 h s x ≡ true

@@ -6,11 +6,13 @@
 --   RoundTrips     "each position below eight to the power of the level gives back its element", and the other way round
 --   Positions      the positions of parent, child, successor, first and last descendant
 --   TotalOrder     the order of two is a total order
+--   Faces          a face neighbour shares that whole face and is valid, its neighbour across its own face is the element again, and
+--                  refused 10 means that no valid element of the level lies across; `points` gives the corner points of a face
 --   Families       family is yes exactly for the children of one parent, in order
 --
 -- Assumes nothing.
 use mathlib.Core.Path.{_≡_}
-use mathlib.Core.Logic.{_↔_}
+use mathlib.Core.Logic.{_↔_, _⊎_}
 use mathlib.Core.Bool.{true}
 use mathlib.Core.List.{List, List·Memᴰ}
 use Prim.Native.Nat.{ℕ, suc, _+_, _-_, _*_, _/_, _^_, _≤_, _<_}
@@ -70,3 +72,16 @@ module _ {E : Type 0} (S : Shape E) where
     pub of-children : (f : E) → Sound f → S .level f < S .highest → family S (childrenOf f) ≡ true
     pub only-children : (es : List E) → ((e : E) → List·Memᴰ e es → Sound e) → family S es ≡ true
         → (f : E) × (Sound f × S .level f < S .highest × es ≡ childrenOf f)
+
+  module _ {P : Type 0} (points : E → ℕ → List P) (opposite : ℕ → ℕ) where
+    -- f lies across face i of e
+    pub record Across (e f : E) (i : ℕ) : Type 0 where
+      pub sound : Sound f
+      pub level : S .level f ≡ S .level e
+      pub shared : points e i ≡ points f (opposite i)
+
+    pub record Faces : Type 0 where
+      pub either : (e : E) (i : ℕ) → (S .neighbour e i ≡ refused 10 0) ⊎ ((f : E) × (S .neighbour e i ≡ accepted f))
+      pub across : (e f : E) (i : ℕ) → Sound e → i < S .faces → S .neighbour e i ≡ accepted f → Across e f i
+      pub back : (e f : E) (i : ℕ) → Sound e → i < S .faces → S .neighbour e i ≡ accepted f → S .neighbour f (opposite i) ≡ accepted e
+      pub alone : (e f : E) (i : ℕ) → Sound e → i < S .faces → S .neighbour e i ≡ refused 10 0 → Across e f i → ⊥

@@ -58,11 +58,8 @@ pub fn moved(x: u32, step: u8, h: u32) -> u32
     ensures { λ r. ⌜ r ≡ cond (leaves 21 h step x) 4294967295 (anchors.moved h step x) ⌝ }
 {
     let far = x as u64 + step as u64 * h as u64;
-    let h = h as u64;
-    if far < h {
-        return GONE;
-    }
-    let to = far - h;
+    // Below 0 it wraps, past every edge.
+    let to = std::num::wrapping_sub_u64(far, h as u64);
     if 2097152 <= to {
         return GONE;
     }

@@ -1,9 +1,13 @@
 -- The ways out of a triangle's neighbour: the two coordinates, one after the other, then the type. Assumes nothing.
-use mathlib.Core.Path.{_≡_, refl, ap, ap₂, _∙_, sym}
+use mathlib.Core.Path.{_≡_, refl, ap, ap₂, _∙_, sym, subst⁻¹}
 use mathlib.Core.Bool.{cond, Bool, true, false, not, _||_}
 use Prim.Native.Nat.{ℕ, zero, suc, _+_, _-_, _*_, _^_, _≤_, _<_}
-use lib.Dec.{leb, ltb}
+use lib.Dec.{leb, ltb, eqb, eqb·suc-zero, leb·suc-suc}
+use native.Mathlib.Nat.{add-zero}
+use native.Mathlib.Numerals.{add-one}
+use native.Mathlib.Omega.{arith}
 use borrow.Author.Tests.{lt-ltb, le-ltb, le-leb, lt-leb, ltb-true, ltb-false, leb-true, leb-false}
+use mir.Val.{boolByte}
 use Rattle.paper.specs.Outcome.{accepted, refused, refuse-when}
 use Rattle.tree.specs.Anchors.{side, moved, leaves}
 use Rattle.tree.proofs.Move.{moved-gone, moved-stays, moved-is}
@@ -26,12 +30,21 @@ not-ltb x y = by (leb x y) refl
     by true e = e ∙ sym (ap not (le-ltb y x (leb-true x y e)))
     by false e = e ∙ sym (ap not (lt-ltb y x (leb-false x y e)))
 
-pub outside-plain : (t x y : ℕ) → t ≡ 0 → ltb x y ≡ not (insideRoot t x y)
-outside-plain t x y plain = rw plain (not-leb x y)
+-- the code's one comparison: of type 1, y counts one more
+pub outside-is : (t x y : ℕ) → ltb x (y + boolByte (not (eqb t 0))) ≡ not (insideRoot t x y)
+outside-is zero x y = ap (ltb x) (add-zero y) ∙ not-leb x y
+outside-is (suc t) x y =
+    ap (λ (b : Bool). ltb x (y + boolByte (not b))) (eqb·suc-zero t)
+    ∙ ap (ltb x) (add-one y)
+    ∙ sym (ltb-suc x y)
+    ∙ not-ltb x y
+  where
+    ltb-suc : (a b : ℕ) → leb a b ≡ ltb a (suc b)
+    ltb-suc a b = sym (leb·suc-suc a b)
 
-pub outside-other : (t x y : ℕ) → (t ≡ 0 → ⊥) → leb x y ≡ not (insideRoot t x y)
-outside-other zero x y other = absurd (other refl)
-outside-other (suc t) x y other = not-ltb x y
+pub bit-le : (t : ℕ) → boolByte (not (eqb t 0)) ≤ 1
+bit-le zero = omega arith
+bit-le (suc t) = subst⁻¹ (λ (b : Bool). boolByte (not b) ≤ 1) (eqb·suc-zero t) (omega arith)
 
 -- ---- across a face. s is its row; h is the side, x and y the moved coordinates, as the code has them
 module _ (e : Triangle) (s : Step) (h x y : ℕ) (sized : h ≡ side 21 (e .level))

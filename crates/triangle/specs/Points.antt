@@ -9,14 +9,17 @@
 --   beyChild c i       the thesis's definition 3: the corners of Bey's child i of the triangle with the corners c, as pairs of corner
 --                      numbers whose midpoints they are (its T0 reads x2 where x02 is meant)
 --   beyNumber t i      which of Bey's children is child i by curve number, of a parent of type t: "Bey's numbers are not curve numbers"
+--   Bey L              the children are Bey's
 --
 -- Assumes nothing.
 use mathlib.Core.Path.{_≡_}
 use mathlib.Core.List.{List, [], _∷_}
-use Prim.Native.Nat.{ℕ, zero, suc, _+_, _-_, _*_}
+use Prim.Native.Nat.{ℕ, zero, suc, _+_, _-_, _*_, _<_}
 use lib.ListN.{getD}
 use Rattle.tree.specs.Anchors.{side}
+use Rattle.tree.specs.Laws.{Sound}
 use Rattle.triangle.specs.declared.Triangle.{Triangle}
+use Rattle.triangle.specs.Elements.{triangleTo, child}
 
 pub record Point : Type 0 where
   pub x : ℕ
@@ -65,3 +68,9 @@ beyChild i =
 
 abbrev pub beyNumber : ℕ → ℕ → ℕ
 beyNumber t i = getD (getD ((0 ∷ 1 ∷ 3 ∷ 2 ∷ []) ∷ (0 ∷ 3 ∷ 1 ∷ 2 ∷ []) ∷ []) t []) i 0
+
+-- the children are Bey's: corner j of child i is the midpoint that definition 3 names
+pub record Bey (L : ℕ) : Type 0 where
+  pub midpoints : (e : Triangle) (i j : ℕ) → Sound (triangleTo L) e → e .level < L → i < 4 → j < 3
+      → let named = getD (beyChild (beyNumber (e .kind) i)) j (ends 0 0) in
+      Midpoint (corner L (child L e i) j) (corner L e (named .from)) (corner L e (named .to))

@@ -33,10 +33,7 @@ pub enum TriangleAnswer {
 pub fn outside(kind: u8, x: u32, y: u32) -> bool
     ensures { λ r. ⌜ r ≡ not (insideRoot kind x y) ⌝ }
 {
-    if kind == 0 {
-        return x < y;
-    }
-    x <= y
+    (x as u64) < y as u64 + (kind != 0) as u64
 }
 
 impl Triangle {

@@ -17,33 +17,25 @@ pub struct Place {
     pub number: u8,
 }
 
-const CHILD_X: [[u8; 4]; 2] = [[0, 1, 1, 1], [0, 0, 0, 1]];
+// Children by curve number: x step + 2 y step + 4 type, two rows of four by the parent's type.
+const CHILD: [[u8; 4]; 2] = [[0, 1, 5, 3], [4, 2, 6, 7]];
 
-const CHILD_Y: [[u8; 4]; 2] = [[0, 0, 0, 1], [0, 1, 1, 1]];
+// The same rows the other way round: number + 4 parent's type, read by type and 2 x step + y step.
+const PLACE: [[u8; 4]; 2] = [[0, 5, 1, 3], [4, 6, 2, 7]];
 
-const CHILD_KIND: [[u8; 4]; 2] = [[0, 0, 1, 0], [1, 0, 1, 1]];
-
-// The same rows the other way round, read by type and twice the x step plus the y step.
-const PARENT_KIND: [[u8; 4]; 2] = [[0, 1, 0, 0], [1, 1, 0, 1]];
-
-const NUMBER: [[u8; 4]; 2] = [[0, 1, 1, 3], [0, 2, 2, 3]];
-
-// The steps of the face rows count sides from -1 on.
-const FACE_X: [[u8; 3]; 2] = [[2, 1, 1], [1, 1, 0]];
-
-const FACE_Y: [[u8; 3]; 2] = [[1, 1, 0], [2, 1, 1]];
-
-const FACE_KIND: [[u8; 3]; 2] = [[1, 1, 1], [0, 0, 0]];
+// Face neighbours: x step + 4 y step + 16 type, the steps counting sides from -1 on.
+const FACE: [[u8; 3]; 2] = [[22, 21, 17], [9, 5, 4]];
 
 pub fn child_row(kind: u8, number: u8) -> Step
     ensures { λ r. ⌜ r ≡ childRow (kind % 2) (number % 4) ⌝ }
 {
     let t = kind as usize % 2;
     let i = number as usize % 4;
+    let v = CHILD[t][i];
     Step {
-        x: CHILD_X[t][i],
-        y: CHILD_Y[t][i],
-        kind: CHILD_KIND[t][i],
+        x: v % 2,
+        y: v / 2 % 2,
+        kind: v / 4,
     }
 }
 
@@ -52,9 +44,10 @@ pub fn place_of(x: u32, y: u32, kind: u8) -> Place
 {
     let t = kind as usize % 2;
     let i = (2 * (x % 2) + y % 2) as usize;
+    let v = PLACE[t][i];
     Place {
-        kind: PARENT_KIND[t][i],
-        number: NUMBER[t][i],
+        kind: v / 4,
+        number: v % 4,
     }
 }
 
@@ -63,9 +56,10 @@ pub fn face_row(kind: u8, face: u8) -> Step
 {
     let t = kind as usize % 2;
     let i = face as usize % 3;
+    let v = FACE[t][i];
     Step {
-        x: FACE_X[t][i],
-        y: FACE_Y[t][i],
-        kind: FACE_KIND[t][i],
+        x: v % 4,
+        y: v / 4 % 4,
+        kind: v / 16,
     }
 }

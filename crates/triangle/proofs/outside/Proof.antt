@@ -1,13 +1,18 @@
--- `triangle::outside` meets its contract, by type. Assumes nothing.
-use Rattle.triangle.proofs.Across.{outside-plain, outside-other}
+-- `triangle::outside` meets its contract: of type 1, y counts one more. Assumes nothing.
+use native.Mathlib.Omega.{arith}
+use borrow.Author.Needs.{needs}
+use Rattle.triangle.proofs.Across.{outside-is, bit-le}
 use Rattle.triangle.proofs.outside.Statement.{statement}
 use Rattle.triangle.proofs.outside.Tie as tie
 
-returns : tie.Need-returns
-returns c = outside-plain (c .before .args .kind) (c .before .args .x) (c .before .args .y) (c .if1 .taken)
+cast-result : tie.Need-cast-result
+cast-result c = search needs
 
-returns-2 : tie.Need-returns-2
-returns-2 c = outside-other (c .before .args .kind) (c .before .args .x) (c .before .args .y) (c .if1 .left)
+add-result : tie.Need-add-result
+add-result c = omega (arith, bit-le (c .args .kind))
+
+returns : tie.Need-returns
+returns c = outside-is (c .args .kind) (c .args .x) (c .args .y)
 
 pub outside-spec : {M : Type 1} → statement M
-outside-spec = tie.close (tie.spec returns returns-2)
+outside-spec = tie.close (tie.spec cast-result add-result returns)

@@ -1,7 +1,7 @@
 -- `place_of` reads the child rows the other way round: eight entries, computed. Assumes nothing.
 use mathlib.Core.Path.{_≡_, refl}
 use mathlib.Core.List.{[], _∷_}
-use Prim.Native.Nat.{ℕ, _+_, _-_, _*_, _%_, _<_}
+use Prim.Native.Nat.{ℕ, _+_, _*_, _/_, _%_}
 use native.Mathlib.Nat.{mod-lt}
 use lib.Dec.{lit<}
 use lib.ListN.{getD}
@@ -20,43 +20,22 @@ add-i c = search needs
 cast-i : tie.Need-cast-i
 cast-i c = search needs
 
-mul-t6 : tie.Need-mul-t6
-mul-t6 c = search needs
+mul-v : tie.Need-mul-v
+mul-v c = search needs
 
-index-1-t18 : tie.Need-index-1-t18
-index-1-t18 c = search needs
+index-1-v : tie.Need-index-1-v
+index-1-v c = search needs
 
-index-2-t18 : tie.Need-index-2-t18
-index-2-t18 c = search needs
-
-mul-t22 : tie.Need-mul-t22
-mul-t22 c = search needs
-
-index-1-t27 : tie.Need-index-1-t27
-index-1-t27 c = search needs
-
-index-2-t27 : tie.Need-index-2-t27
-index-2-t27 c = search needs
+index-2-v : tie.Need-index-2-v
+index-2-v c = search needs
 
 returns : tie.Need-returns
 unfolding parentKind numberOf
 returns c =
     each-step
-    (λ (x y t : ℕ). (getD (getD ((0 ∷ 1 ∷ 0 ∷ 0 ∷ []) ∷ (1 ∷ 1 ∷ 0 ∷ 1 ∷ []) ∷ []) t []) (2 * x + y) 0 ≡ parentKind (step x y t)) × (getD (getD ((0 ∷ 1 ∷ 1 ∷ 3 ∷ []) ∷ (0 ∷ 2 ∷ 2 ∷ 3 ∷ []) ∷ []) t []) (2 * x + y) 0 ≡ numberOf (step x y t)))
+    (λ (x y t : ℕ). (getD (getD ((0 ∷ 5 ∷ 1 ∷ 3 ∷ []) ∷ (4 ∷ 6 ∷ 2 ∷ 7 ∷ []) ∷ []) t []) (2 * x + y) 0 / 4 ≡ parentKind (step x y t)) × (getD (getD ((0 ∷ 5 ∷ 1 ∷ 3 ∷ []) ∷ (4 ∷ 6 ∷ 2 ∷ 7 ∷ []) ∷ []) t []) (2 * x + y) 0 % 4 ≡ numberOf (step x y t)))
     (refl, refl) (refl, refl) (refl, refl) (refl, refl) (refl, refl) (refl, refl) (refl, refl) (refl, refl)
-    (c .before .before .args .x % 2) (c .before .before .args .y % 2) (c .before .before .args .kind % 2) (mod-lt (c .before .before .args .x) (lit< tt)) (mod-lt (c .before .before .args .y) (lit< tt)) (mod-lt (c .before .before .args .kind) (lit< tt))
+    (c .before .args .x % 2) (c .before .args .y % 2) (c .before .args .kind % 2) (mod-lt (c .before .args .x) (lit< tt)) (mod-lt (c .before .args .y) (lit< tt)) (mod-lt (c .before .args .kind) (lit< tt))
 
 pub place-of-spec : {M : Type 1} → statement M
-place-of-spec =
-    tie.close
-    (tie.spec
-    mul-i
-    add-i
-    cast-i
-    mul-t6
-    index-1-t18
-    index-2-t18
-    mul-t22
-    index-1-t27
-    index-2-t27
-    returns)
+place-of-spec = tie.close (tie.spec mul-i add-i cast-i mul-v index-1-v index-2-v returns)
