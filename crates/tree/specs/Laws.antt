@@ -16,7 +16,7 @@ use mathlib.Core.Logic.{_↔_, _⊎_}
 use mathlib.Core.Bool.{true}
 use mathlib.Core.List.{List, List·Memᴰ}
 use Prim.Native.Nat.{ℕ, suc, _+_, _-_, _*_, _/_, _^_, _≤_, _<_}
-use Rattle.paper.specs.Outcome.{less, same, greater, rows}
+use Rattle.paper.specs.Outcome.{accepted, refused, less, same, greater, rows}
 use Rattle.tree.specs.Shape.{Shape}
 use Rattle.tree.specs.Words.{at, position, successor, first, last, family, order}
 
