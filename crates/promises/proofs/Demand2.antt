@@ -1,0 +1,108 @@
+-- Demand 2 for elements: each part is a law of its crate, at the three shapes. Assumes nothing.
+use mathlib.Core.Path.{_≡_, ap, _∙_, sym, refl}
+use Prim.Native.Nat.{ℕ}
+use native.Mathlib.Omega.{arith}
+use Rattle.paper.specs.Outcome.{Outcome, accepted, refused, Order, less, same, greater}
+use Rattle.tree.specs.Shape.{Shape}
+use Rattle.tree.specs.Laws.{Lawful}
+use Rattle.tree.proofs.RoundTrip.{round-trips}
+use Rattle.tree.proofs.Descent.{positions}
+use Rattle.tree.proofs.Ordering.{total-order}
+use Rattle.tree.proofs.Family.{families}
+use Rattle.line.specs.Elements.{line}
+use Rattle.line.proofs.Laws as line-laws
+use Rattle.triangle.specs.Elements.{triangle}
+use Rattle.triangle.proofs.Laws as triangle-laws
+use Rattle.prism.specs.Elements.{prism}
+use Rattle.prism.proofs.Laws as prism-laws
+use Rattle.index.specs.Index.{lineIndex, triangleIndex, prismIndex}
+use Rattle.index.specs.Rank.{Ranked}
+use Rattle.index.proofs.Rank.{line-ranked, triangle-ranked, prism-ranked}
+use Rattle.line.specs.declared.LineAnswer.{LineAnswer}
+use Rattle.line.specs.declared.LineAnswer.the-variants as line-answer
+use Rattle.triangle.specs.declared.TriangleAnswer.{TriangleAnswer}
+use Rattle.triangle.specs.declared.TriangleAnswer.the-variants as triangle-answer
+use Rattle.prism.specs.declared.PrismAnswer.{PrismAnswer}
+use Rattle.prism.specs.declared.PrismAnswer.the-variants as prism-answer
+use Rattle.paper.specs.declared.PositionAnswer.{PositionAnswer}
+use Rattle.paper.specs.declared.PositionAnswer.the-variants as position-answer
+use Rattle.paper.specs.declared.FamilyAnswer.{FamilyAnswer}
+use Rattle.paper.specs.declared.FamilyAnswer.the-variants as family-answer
+use Rattle.paper.specs.declared.OrderAnswer.{OrderAnswer}
+use Rattle.paper.specs.declared.OrderAnswer.the-variants as order-answer
+use Rattle.paper.specs.Readings.{positionOf, familyOf, orderOf}
+use Rattle.line.specs.Elements as lines
+use Rattle.triangle.specs.Elements as triangles
+use Rattle.prism.specs.Elements as prisms
+use Rattle.promises.specs.Demand2.{Elements, Determined, Answers, Demand2}
+
+elements : {E : Type 0} (S : Shape E) (index : E → ℕ) → Lawful S → Ranked S index → Elements S index
+elements S index W ranked =
+    record { round-trips = round-trips S W; ranked = ranked; positions = positions S W; total-order = total-order S W; families = families S W }
+
+-- ---- a reading that can be turned back determines the answer
+determined-by : {A B : Type 0} (f : A → B) (back : B → A) → ((r : A) → back (f r) ≡ r) → Determined f
+determined-by f back undo r s h = sym (undo r) ∙ ap back h ∙ undo s
+
+-- an outcome as an answer of two cases
+abbrev answer : {A B : Type 0} → (B → A) → (ℕ → ℕ → A) → Outcome B → A
+answer is refuse (accepted b) = is b
+answer is refuse (refused number place) = refuse number place
+
+line-elements : Determined lines.elementOf
+line-elements = determined-by lines.elementOf (answer line-answer.Is line-answer.Refused) undo
+  where
+    undo : (r : LineAnswer) → answer line-answer.Is line-answer.Refused (lines.elementOf r) ≡ r
+    undo (line-answer.Is e) = refl
+    undo (line-answer.Refused n p) = refl
+
+triangle-elements : Determined triangles.elementOf
+triangle-elements = determined-by triangles.elementOf (answer triangle-answer.Is triangle-answer.Refused) undo
+  where
+    undo : (r : TriangleAnswer) → answer triangle-answer.Is triangle-answer.Refused (triangles.elementOf r) ≡ r
+    undo (triangle-answer.Is e) = refl
+    undo (triangle-answer.Refused n p) = refl
+
+prism-elements : Determined prisms.elementOf
+prism-elements = determined-by prisms.elementOf (answer prism-answer.Is prism-answer.Refused) undo
+  where
+    undo : (r : PrismAnswer) → answer prism-answer.Is prism-answer.Refused (prisms.elementOf r) ≡ r
+    undo (prism-answer.Is e) = refl
+    undo (prism-answer.Refused n p) = refl
+
+position-answers : Determined positionOf
+position-answers = determined-by positionOf (answer position-answer.Is position-answer.Refused) undo
+  where
+    undo : (r : PositionAnswer) → answer position-answer.Is position-answer.Refused (positionOf r) ≡ r
+    undo (position-answer.Is p) = refl
+    undo (position-answer.Refused n p) = refl
+
+family-answers : Determined familyOf
+family-answers = determined-by familyOf (answer family-answer.Is family-answer.Refused) undo
+  where
+    undo : (r : FamilyAnswer) → answer family-answer.Is family-answer.Refused (familyOf r) ≡ r
+    undo (family-answer.Is b) = refl
+    undo (family-answer.Refused n p) = refl
+
+abbrev ordered : Order → OrderAnswer
+ordered less = order-answer.Less
+ordered same = order-answer.Same
+ordered greater = order-answer.Greater
+
+order-answers : Determined orderOf
+order-answers = determined-by orderOf (answer ordered order-answer.Refused) undo
+  where
+    undo : (r : OrderAnswer) → answer ordered order-answer.Refused (orderOf r) ≡ r
+    undo order-answer.Less = refl
+    undo order-answer.Same = refl
+    undo order-answer.Greater = refl
+    undo (order-answer.Refused n p) = refl
+
+pub demand-2 : Demand2
+demand-2 =
+    record {
+      of-lines = elements line lineIndex (line-laws.lawful 21) (line-ranked 21);
+      of-triangles = elements triangle (triangleIndex 21) (triangle-laws.lawful 21) (triangle-ranked 21);
+      of-prisms = elements prism (prismIndex 21) (prism-laws.lawful 21) (prism-ranked 21);
+      determined = record { line-elements = line-elements; triangle-elements = triangle-elements; prism-elements = prism-elements; positions = position-answers; families = family-answers; orders = order-answers }
+    }
