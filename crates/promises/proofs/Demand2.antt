@@ -104,5 +104,5 @@ demand-2 =
       of-lines = elements line lineIndex (line-laws.lawful 21) (line-ranked 21);
       of-triangles = elements triangle (triangleIndex 21) (triangle-laws.lawful 21) (triangle-ranked 21);
       of-prisms = elements prism (prismIndex 21) (prism-laws.lawful 21) (prism-ranked 21);
-      determined = record { line-elements = line-elements; triangle-elements = triangle-elements; prism-elements = prism-elements; positions = position-answers; families = family-answers; orders = order-answers }
+      determined = record { line-elements = line-elements; triangle-elements = triangle-elements; prism-elements = prism-elements; positions = position-answers; families = family-answers; orders = order-answers };
     }
