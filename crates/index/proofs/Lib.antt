@@ -2,3 +2,4 @@ pub mod Count
 pub mod Rise
 pub mod Overlay
 pub mod Rank
+pub mod Controls

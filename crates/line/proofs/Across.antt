@@ -1,8 +1,8 @@
 -- The two ways out of a line's neighbour. Assumes nothing.
 use mathlib.Core.Path.{_≡_, ap, _∙_, sym}
-use mathlib.Core.Bool.{Bool, true, cond}
+use mathlib.Core.Bool.{cond}
 use Prim.Native.Nat.{ℕ, _*_}
-use Rattle.paper.specs.Outcome.{Outcome, accepted, refused, refuse-when}
+use Rattle.paper.specs.Outcome.{accepted, refused, refuse-when}
 use Rattle.tree.specs.Anchors.{side, moved, leaves}
 use Rattle.tree.proofs.Move.{moved-gone, moved-stays, moved-is}
 use Rattle.line.specs.declared.Line.{Line}

@@ -1,3 +1,4 @@
 pub mod Laws
 pub mod Closed
 pub mod Across
+pub mod Faces

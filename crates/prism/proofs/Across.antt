@@ -3,7 +3,7 @@
 use mathlib.Core.Path.{_≡_, refl, ap, ap₂, _∙_, sym, subst}
 use mathlib.Core.Logic.{_⊎_, inl, inr, ⊎-elim}
 use mathlib.Core.Bool.{Bool, true, false, not, cond, _||_}
-use Prim.Native.Nat.{ℕ, suc, _+_, _-_, _*_, _≤_, _<_}
+use Prim.Native.Nat.{ℕ, _+_, _-_, _*_, _≤_, _<_}
 use native.Mathlib.Decide.{decLt}
 use native.Mathlib.Omega.{arith}
 use borrow.Author.Tests.{lt-ltb, le-ltb}
@@ -13,12 +13,11 @@ use Rattle.tree.proofs.Anchor.{grid-lt}
 use Rattle.tree.proofs.Move.{moved-gone, moved-stays, moved-is, still, still-stays}
 use Rattle.tree.proofs.Cases.{below-2, below-3, below-5}
 use Rattle.line.specs.declared.Line.{Line}
-use Rattle.line.specs.Elements as line
 use Rattle.triangle.specs.declared.Triangle.{Triangle}
 use Rattle.triangle.specs.Rows.{faceRow}
-use Rattle.triangle.specs.Elements as triangle
 use Rattle.triangle.specs.Elements.{insideRoot}
 use Rattle.triangle.proofs.Laws.{Known}
+use Rattle.line.specs.Elements as line
 use Rattle.prism.specs.declared.rows.Side.{Side}
 use Rattle.prism.specs.declared.Prism.{Prism}
 use Rattle.prism.specs.Rows.{sided, sideRow}

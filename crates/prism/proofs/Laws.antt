@@ -1,7 +1,7 @@
 -- A prism is a triangle times a line, so each of its laws is theirs, side by side: the child number's remainder by 4 is the triangle's
 -- and its quotient the line's. Assumes nothing.
 use mathlib.Core.Path.{_≡_, refl, ap₂, _∙_}
-use mathlib.Core.Bool.{Bool, true, false, not, _||_, true≢false, and-eq-true-iff}
+use mathlib.Core.Bool.{true, false, not, _||_, and-eq-true-iff}
 use Prim.Native.Nat.{ℕ, _+_, _*_, _/_, _%_, _<_}
 use native.Mathlib.Omega.{arith}
 use lib.Dec.{ltb, eqb}

@@ -2,3 +2,4 @@ pub mod Laws
 pub mod Parts
 pub mod Loops
 pub mod Across
+pub mod Faces

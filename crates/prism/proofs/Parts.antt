@@ -3,8 +3,7 @@ use mathlib.Core.Path.{_≡_, refl, ap, ap₂, _∙_, sym}
 use Prim.Native.Nat.{ℕ, zero, suc, _+_, _-_, _/_, _%_, _≤_, _<_}
 use native.Mathlib.Nat.{add-zero}
 use native.Mathlib.Omega.{arith}
-use borrow.Author.Tests.{lt-ltb, le-ltb}
-use Rattle.paper.specs.Outcome.{accepted, refused, mapped}
+use Rattle.paper.specs.Outcome.{accepted, refused}
 use Rattle.tree.specs.Words.{descend, first, last}
 use Rattle.line.specs.declared.Line.{Line}
 use Rattle.line.specs.declared.LineAnswer.{LineAnswer}
@@ -19,7 +18,7 @@ use Rattle.triangle.specs.declared.TriangleAnswer.the-variants as triangle-answ
 use Rattle.triangle.specs.Elements as triangle
 use Rattle.triangle.proofs.Units as triangle-units
 use Rattle.prism.specs.declared.Prism.{Prism}
-use Rattle.prism.specs.Elements.{prismTo, triangleOf, lineOf, joined, neighbour}
+use Rattle.prism.specs.Elements.{prismTo, triangleOf, lineOf, joined}
 
 -- ---- an answer that is known to be accepted
 pub triangle-is : (r : TriangleAnswer) (t f : Triangle) → r ≡ triangle-answer.Is t → triangle.elementOf r ≡ accepted f → t ≡ f

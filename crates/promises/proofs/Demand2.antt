@@ -1,44 +1,59 @@
 -- Demand 2 for elements: each part is a law of its crate, at the three shapes. Assumes nothing.
 use mathlib.Core.Path.{_≡_, ap, _∙_, sym, refl}
+use mathlib.Core.List.{List}
 use Prim.Native.Nat.{ℕ}
-use native.Mathlib.Omega.{arith}
 use Rattle.paper.specs.Outcome.{Outcome, accepted, refused, Order, less, same, greater}
 use Rattle.tree.specs.Shape.{Shape}
-use Rattle.tree.specs.Laws.{Lawful}
+use Rattle.tree.specs.Laws.{Lawful, Faces}
 use Rattle.tree.proofs.RoundTrip.{round-trips}
 use Rattle.tree.proofs.Descent.{positions}
 use Rattle.tree.proofs.Ordering.{total-order}
 use Rattle.tree.proofs.Family.{families}
 use Rattle.line.specs.Elements.{line}
-use Rattle.line.proofs.Laws as line-laws
 use Rattle.triangle.specs.Elements.{triangle}
-use Rattle.triangle.proofs.Laws as triangle-laws
 use Rattle.prism.specs.Elements.{prism}
-use Rattle.prism.proofs.Laws as prism-laws
+use Rattle.line.proofs.Faces.{line-faces}
+use Rattle.triangle.proofs.Faces.{triangle-faces}
+use Rattle.triangle.proofs.Bey.{bey}
+use Rattle.prism.proofs.Faces.{prism-faces}
 use Rattle.index.specs.Index.{lineIndex, triangleIndex, prismIndex}
 use Rattle.index.specs.Rank.{Ranked}
 use Rattle.index.proofs.Rank.{line-ranked, triangle-ranked, prism-ranked}
 use Rattle.line.specs.declared.LineAnswer.{LineAnswer}
-use Rattle.line.specs.declared.LineAnswer.the-variants as line-answer
 use Rattle.triangle.specs.declared.TriangleAnswer.{TriangleAnswer}
-use Rattle.triangle.specs.declared.TriangleAnswer.the-variants as triangle-answer
 use Rattle.prism.specs.declared.PrismAnswer.{PrismAnswer}
-use Rattle.prism.specs.declared.PrismAnswer.the-variants as prism-answer
 use Rattle.paper.specs.declared.PositionAnswer.{PositionAnswer}
-use Rattle.paper.specs.declared.PositionAnswer.the-variants as position-answer
 use Rattle.paper.specs.declared.FamilyAnswer.{FamilyAnswer}
-use Rattle.paper.specs.declared.FamilyAnswer.the-variants as family-answer
 use Rattle.paper.specs.declared.OrderAnswer.{OrderAnswer}
-use Rattle.paper.specs.declared.OrderAnswer.the-variants as order-answer
 use Rattle.paper.specs.Readings.{positionOf, familyOf, orderOf}
+use Rattle.line.proofs.Laws as line-laws
+use Rattle.triangle.proofs.Laws as triangle-laws
+use Rattle.prism.proofs.Laws as prism-laws
+use Rattle.line.specs.Points as line-points
+use Rattle.triangle.specs.Points as triangle-points
+use Rattle.prism.specs.Points as prism-points
+use Rattle.line.specs.declared.LineAnswer.the-variants as line-answer
+use Rattle.triangle.specs.declared.TriangleAnswer.the-variants as triangle-answer
+use Rattle.prism.specs.declared.PrismAnswer.the-variants as prism-answer
+use Rattle.paper.specs.declared.PositionAnswer.the-variants as position-answer
+use Rattle.paper.specs.declared.FamilyAnswer.the-variants as family-answer
+use Rattle.paper.specs.declared.OrderAnswer.the-variants as order-answer
 use Rattle.line.specs.Elements as lines
 use Rattle.triangle.specs.Elements as triangles
 use Rattle.prism.specs.Elements as prisms
-use Rattle.promises.specs.Demand2.{Elements, Determined, Answers, Demand2}
+use Rattle.promises.specs.Demand2.{Elements, Determined, Demand2}
 
-elements : {E : Type 0} (S : Shape E) (index : E → ℕ) → Lawful S → Ranked S index → Elements S index
-elements S index W ranked =
-    record { round-trips = round-trips S W; ranked = ranked; positions = positions S W; total-order = total-order S W; families = families S W }
+elements : {E P : Type 0} (S : Shape E) (index : E → ℕ) (points : E → ℕ → List P) (opposite : ℕ → ℕ)
+    → Lawful S → Ranked S index → Faces S points opposite → Elements S index points opposite
+elements S index points opposite W ranked faces =
+    record {
+      round-trips = round-trips S W;
+      ranked = ranked;
+      positions = positions S W;
+      total-order = total-order S W;
+      families = families S W;
+      faces = faces;
+    }
 
 -- ---- a reading that can be turned back determines the answer
 determined-by : {A B : Type 0} (f : A → B) (back : B → A) → ((r : A) → back (f r) ≡ r) → Determined f
@@ -101,8 +116,9 @@ order-answers = determined-by orderOf (answer ordered order-answer.Refused) undo
 pub demand-2 : Demand2
 demand-2 =
     record {
-      of-lines = elements line lineIndex (line-laws.lawful 21) (line-ranked 21);
-      of-triangles = elements triangle (triangleIndex 21) (triangle-laws.lawful 21) (triangle-ranked 21);
-      of-prisms = elements prism (prismIndex 21) (prism-laws.lawful 21) (prism-ranked 21);
+      of-lines = elements line lineIndex (line-points.facePoints 21) line-points.opposite (line-laws.lawful 21) (line-ranked 21) (line-faces 21);
+      of-triangles = elements triangle (triangleIndex 21) (triangle-points.facePoints 21) triangle-points.opposite (triangle-laws.lawful 21) (triangle-ranked 21) (triangle-faces 21);
+      of-prisms = elements prism (prismIndex 21) (prism-points.facePoints 21) prism-points.opposite (prism-laws.lawful 21) (prism-ranked 21) (prism-faces 21);
+      children-are-bey's = bey 21;
       determined = record { line-elements = line-elements; triangle-elements = triangle-elements; prism-elements = prism-elements; positions = position-answers; families = family-answers; orders = order-answers };
     }

@@ -11,19 +11,24 @@ use mathlib.Core.List.{List}
 use Prim.Native.Nat.{ℕ}
 use Rattle.paper.specs.Readings.{positionOf, familyOf, orderOf}
 use Rattle.tree.specs.Shape.{Shape}
-use Rattle.tree.specs.Laws.{RoundTrips, Positions, TotalOrder, Families}
+use Rattle.tree.specs.Laws.{RoundTrips, Positions, TotalOrder, Families, Faces}
+use Rattle.triangle.specs.Points.{Bey}
+use Rattle.index.specs.Index.{lineIndex, triangleIndex, prismIndex}
+use Rattle.index.specs.Rank.{Ranked}
 use Rattle.line.specs.Elements as lines
 use Rattle.triangle.specs.Elements as triangles
 use Rattle.prism.specs.Elements as prisms
-use Rattle.index.specs.Index.{lineIndex, triangleIndex, prismIndex}
-use Rattle.index.specs.Rank.{Ranked}
+use Rattle.line.specs.Points as line-points
+use Rattle.triangle.specs.Points as triangle-points
+use Rattle.prism.specs.Points as prism-points
 
-pub record Elements {E : Type 0} (S : Shape E) (index : E → ℕ) : Type 0 where
+pub record Elements {E P : Type 0} (S : Shape E) (index : E → ℕ) (points : E → ℕ → List P) (opposite : ℕ → ℕ) : Type 0 where
   pub round-trips : RoundTrips S
   pub ranked : Ranked S index
   pub positions : Positions S
   pub total-order : TotalOrder S
   pub families : Families S
+  pub faces : Faces S points opposite
 
 abbrev pub Determined : {A B : Type 0} → (A → B) → Type 0
 Determined {A} f = (r s : A) → f r ≡ f s → r ≡ s
@@ -37,7 +42,8 @@ pub record Answers : Type 0 where
   pub orders : Determined orderOf
 
 pub record Demand2 : Type 0 where
-  pub of-lines : Elements lines.line lineIndex
-  pub of-triangles : Elements triangles.triangle (triangleIndex 21)
-  pub of-prisms : Elements prisms.prism (prismIndex 21)
+  pub of-lines : Elements lines.line lineIndex (line-points.facePoints 21) line-points.opposite
+  pub of-triangles : Elements triangles.triangle (triangleIndex 21) (triangle-points.facePoints 21) triangle-points.opposite
+  pub of-prisms : Elements prisms.prism (prismIndex 21) (prism-points.facePoints 21) prism-points.opposite
+  pub children-are-bey's : Bey 21
   pub determined : Answers

@@ -10,9 +10,9 @@ use mathlib.Core.Path.{_≡_}
 use mathlib.Core.List.{List, [], _∷_}
 use Prim.Native.Nat.{ℕ}
 use Rattle.paper.specs.Outcome.{Outcome, accepted, refused}
-use Rattle.tree.specs.Calls
 use Rattle.prism.specs.declared.Prism.{Prism}
 use Rattle.prism.specs.Elements.{prism}
+use Rattle.tree.specs.Calls
 
 pub data Case : Type 0 where
   element : Outcome Prism → Outcome Prism → Case

@@ -1,7 +1,7 @@
 -- One coordinate, one level down and up again. Counted in sides of its own level a coordinate is any number below 2^l; a step
 -- down doubles it and adds the step, so all that follows is arithmetic of 2 * u + i. Assumes nothing.
 use mathlib.Core.Path.{_≡_, refl, ap, _∙_, sym, subst}
-use mathlib.Core.Bool.{Bool, true, false, not, _||_, true≢false}
+use mathlib.Core.Bool.{Bool, true, false, not}
 use Prim.Native.Nat.{ℕ, suc, _+_, _-_, _*_, _/_, _%_, _^_, _≤_, _<_}
 use native.Mathlib.Nat.{zero-mul, one-mul, mul-le-mul-right, mod-eq-of-lt, lt-of-le-of-lt, div-mul-le-self, pow-suc, mul-comm, mul-div-cancel, mul-div-mul-right, mul-mod-left, div-add-mod', div-lt-iff-lt-mul, mul-lt-mul-of-pos-right, mod-lt, add-sub-of-le}
 use native.Mathlib.Omega.{arith}

@@ -9,3 +9,4 @@ pub mod Family
 pub mod Walk
 pub mod Sibling
 pub mod Call
+pub mod Faces

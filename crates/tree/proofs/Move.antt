@@ -1,14 +1,14 @@
 -- What the code's answer for a moved coordinate says: GONE exactly where the move leaves the edge, since no anchor is as large; and a
 -- coordinate that stays does not leave. Assumes nothing.
-use mathlib.Core.Path.{_≡_, refl, ap, _∙_, sym}
+use mathlib.Core.Path.{_≡_, refl, ap, _∙_}
 use mathlib.Core.Bool.{Bool, true, false, cond, _||_}
 use Prim.Native.Nat.{ℕ, _+_, _-_, _*_, _%_, _^_, _≤_, _<_}
 use native.Mathlib.Decide.{decLt}
 use native.Mathlib.Omega.{arith}
-use borrow.Author.Tests.{lt-ltb, le-ltb, le-leb, lt-leb, leb-false}
 use lib.Dec.{leb, ltb}
+use borrow.Author.Tests.{lt-ltb, le-ltb, le-leb, lt-leb, leb-false}
 use Rattle.paper.proofs.Tests.{or-none}
-use Rattle.tree.specs.Anchors.{side, moved, leaves}
+use Rattle.tree.specs.Anchors.{moved, leaves}
 
 -- ---- the code's one test for the two ways to leave: `to` is far - h, modulo 2^64
 module _ (far h to : ℕ) (wraps : (to + h) % 2 ^ 64 ≡ far) (word : to < 2 ^ 64) (narrow : h < 2 ^ 32) where

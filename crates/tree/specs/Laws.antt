@@ -7,7 +7,7 @@
 --   Positions      the positions of parent, child, successor, first and last descendant
 --   TotalOrder     the order of two is a total order
 --   Faces          a face neighbour shares that whole face and is valid, its neighbour across its own face is the element again, and
---                  refused 10 means that no valid element of the level lies across; `points` gives the corner points of a face
+--                  refused 10 means that no other valid element of the level lies across; `points` gives the corner points of a face
 --   Families       family is yes exactly for the children of one parent, in order
 --
 -- Assumes nothing.
@@ -79,6 +79,8 @@ module _ {E : Type 0} (S : Shape E) where
       pub sound : Sound f
       pub level : S .level f ≡ S .level e
       pub shared : points e i ≡ points f (opposite i)
+      -- face 1 of a triangle is face 1 across too, so the element itself has it
+      pub other : e ≡ f → ⊥
 
     pub record Faces : Type 0 where
       pub either : (e : E) (i : ℕ) → (S .neighbour e i ≡ refused 10 0) ⊎ ((f : E) × (S .neighbour e i ≡ accepted f))

@@ -1,19 +1,19 @@
 -- The ways out of a triangle's neighbour: the two coordinates, one after the other, then the type. Assumes nothing.
 use mathlib.Core.Path.{_≡_, refl, ap, ap₂, _∙_, sym, subst⁻¹}
 use mathlib.Core.Bool.{cond, Bool, true, false, not, _||_}
-use Prim.Native.Nat.{ℕ, zero, suc, _+_, _-_, _*_, _^_, _≤_, _<_}
-use lib.Dec.{leb, ltb, eqb, eqb·suc-zero, leb·suc-suc}
+use Prim.Native.Nat.{ℕ, zero, suc, _+_, _≤_}
 use native.Mathlib.Nat.{add-zero}
 use native.Mathlib.Numerals.{add-one}
 use native.Mathlib.Omega.{arith}
+use lib.Dec.{leb, ltb, eqb, eqb·suc-zero, leb·suc-suc}
 use borrow.Author.Tests.{lt-ltb, le-ltb, le-leb, lt-leb, ltb-true, ltb-false, leb-true, leb-false}
-use mir.Val.{boolByte}
 use Rattle.paper.specs.Outcome.{accepted, refused, refuse-when}
 use Rattle.tree.specs.Anchors.{side, moved, leaves}
 use Rattle.tree.proofs.Move.{moved-gone, moved-stays, moved-is}
 use Rattle.triangle.specs.declared.rows.Step.{Step}
 use Rattle.triangle.specs.declared.Triangle.{Triangle}
 use Rattle.triangle.specs.Elements.{insideRoot, acrossBy}
+use mir.Val.{boolByte}
 
 -- ---- outside the root, by type
 not-leb : (x y : ℕ) → ltb x y ≡ not (leb y x)

@@ -3,3 +3,5 @@ pub mod Laws
 pub mod Units
 pub mod Across
 pub mod Loops
+pub mod Bey
+pub mod Faces

@@ -1,6 +1,6 @@
 -- `tree::bit` meets its contract: the shift is the division by the side. Assumes nothing.
 use mathlib.Core.Path.{ap, _∙_, sym}
-use Prim.Native.Nat.{ℕ, _-_, _/_, _%_}
+use Prim.Native.Nat.{ℕ, _/_, _%_}
 use native.Mathlib.Nat.{div-one}
 use native.Mathlib.Omega.{arith}
 use borrow.Author.Needs.{needs}

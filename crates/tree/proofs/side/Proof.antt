@@ -1,6 +1,6 @@
 -- `tree::side` meets its contract: a shifted 1 is the power of two. Assumes nothing.
 use mathlib.Core.Path.{sym}
-use Prim.Native.Nat.{_-_, _^_, _≤_, _<_}
+use Prim.Native.Nat.{_-_, _^_, _≤_}
 use native.Mathlib.Nat.{lt-of-le-of-lt}
 use native.Mathlib.Omega.{arith}
 use lib.Dec.{lit<}
