@@ -1,6 +1,6 @@
 -- How an outcome goes over the C interface: a word for the refusal, and the value beside it. Definitions only.
 --
---   word o         "0 when accepted, else place·256 + number"; a place is taken modulo 2^56, so that the word always holds it (no lent
+--   word o         0 when accepted, else place·256 + number; a place is taken modulo 2^56, so that the word always holds it (no lent
 --                  column has as many entries)
 --   valueOr z o    the value, z on a refusal
 --   lineResult, triangleResult, prismResult, numberResult, familyResult, orderResult

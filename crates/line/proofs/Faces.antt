@@ -7,14 +7,14 @@ use Prim.Native.Nat.{ℕ, _+_, _-_, _*_, _<_}
 use native.Mathlib.Omega.{arith}
 use lib.ListN.{getD}
 use Rattle.paper.specs.Outcome.{accepted, refuse-when}
-use Rattle.tree.specs.Anchors.{side, moved, leaves}
+use Rattle.tree.specs.Anchors.{side, moved, offEdge}
 use Rattle.tree.proofs.Anchor.{side-pos, grid-lt}
 use Rattle.tree.proofs.Cases.{below-2}
 use Rattle.tree.specs.Laws.{Across, Faces}
 use Rattle.tree.proofs.Faces.{either-way, when-accepted, when-refused, move-far, move-reached, move-back, move-grid}
 use Rattle.line.specs.declared.Line.{Line}
 use Rattle.line.specs.Elements.{lineTo, fault, neighbour}
-use Rattle.line.specs.Points.{corner, facePoints, opposite}
+use Rattle.line.specs.Points.{corner, facePoints, faceAcross}
 use Rattle.line.proofs.Laws.{sound-level, sound-grid, grid-sound}
 
 -- ---- the lines from x and from y, of length h, meet in face i of the first
@@ -26,10 +26,10 @@ module _ (x y h : ℕ) where
   meets = below-2 (λ (i : ℕ). x + i * h ≡ y + (1 - i) * h → y + h ≡ x + 2 * i * h) (λ shared. omega arith) (λ shared. omega arith)
 
 -- its own two faces are not one
-pub ends-differ : (L : ℕ) (e : Line) (i : ℕ) → i < 2 → corner L e i ≡ corner L e (opposite i) → ⊥
+pub ends-differ : (L : ℕ) (e : Line) (i : ℕ) → i < 2 → corner L e i ≡ corner L e (faceAcross i) → ⊥
 ends-differ L e =
     let positive = side-pos L (e .level) in
-    below-2 (λ (i : ℕ). corner L e i ≡ corner L e (opposite i) → ⊥) (λ same. omega arith) (λ same. omega arith)
+    below-2 (λ (i : ℕ). corner L e i ≡ corner L e (faceAcross i) → ⊥) (λ same. omega arith) (λ same. omega arith)
 
 module _ (L : ℕ) (e : Line) (i : ℕ) (sound : fault L e ≡ 0) (small : i < 2) where
   abbrev h : ℕ
@@ -38,11 +38,11 @@ module _ (L : ℕ) (e : Line) (i : ℕ) (sound : fault L e ≡ 0) (small : i < 2
   abbrev there : Line
   there = record { x = moved h (2 * i) (e .x); level = e .level }
 
-  module _ (stays : leaves L h (2 * i) (e .x) ≡ false) where
-    met : corner L e i ≡ corner L there (opposite i)
+  module _ (stays : offEdge L h (2 * i) (e .x) ≡ false) where
+    met : corner L e i ≡ corner L there (faceAcross i)
     met = meeting (e .x) (there .x) h i small (move-far L h (2 * i) (e .x) stays)
 
-    across-there : Across (lineTo L) (facePoints L) opposite e there i
+    across-there : Across (lineTo L) (facePoints L) faceAcross e there i
     unfolding lineTo
     across-there =
         record {
@@ -51,18 +51,18 @@ module _ (L : ℕ) (e : Line) (i : ℕ) (sound : fault L e ≡ 0) (small : i < 2
               (move-grid L (e .level) (2 * i) (e .x) (sound-grid L (e .level) (e .x) sound) stays);
           level = refl;
           shared = ap (λ (k : ℕ). k ∷ []) met;
-          other = λ same. ends-differ L e i small (met ∙ ap (λ (g : Line). corner L g (opposite i)) (sym same));
+          other = λ same. ends-differ L e i small (met ∙ ap (λ (g : Line). corner L g (faceAcross i)) (sym same));
         }
 
-    back-there : neighbour L there (opposite i) ≡ accepted e
+    back-there : neighbour L there (faceAcross i) ≡ accepted e
     back-there =
         let turned : 2 * (1 - i) ≡ 2 - 2 * i = omega arith in
         let back = move-back L h (2 * i) (e .x) (omega arith) (grid-lt L (e .level) (e .x) (sound-grid L (e .level) (e .x) sound)) stays in
         ap₂ (λ (t : Bool) (k : ℕ). refuse-when t 10 (accepted (record { x = k; level = e .level })))
-        (ap (λ (s : ℕ). leaves L h s (there .x)) turned ∙ back .0)
+        (ap (λ (s : ℕ). offEdge L h s (there .x)) turned ∙ back .0)
         (ap (λ (s : ℕ). moved h s (there .x)) turned ∙ back .1)
 
-  reached : (f : Line) → Across (lineTo L) (facePoints L) opposite e f i → leaves L h (2 * i) (e .x) ≡ false
+  reached : (f : Line) → Across (lineTo L) (facePoints L) faceAcross e f i → offEdge L h (2 * i) (e .x) ≡ false
   unfolding lineTo
   reached f a =
       let sized : side L (f .level) ≡ h = ap (side L) (a .level) in
@@ -70,17 +70,17 @@ module _ (L : ℕ) (e : Line) (i : ℕ) (sound : fault L e ≡ 0) (small : i < 2
       ap (λ (l : List ℕ). getD l 0 0) (a .shared) ∙ ap (λ (k : ℕ). f .x + (1 - i) * k) sized in
       move-reached L h (2 * i) (e .x) (f .x) (meets (e .x) (f .x) h i small shared) (grid-lt L (f .level) (f .x) (sound-grid L (f .level) (f .x) (a .sound))) .0
 
-pub line-faces : (L : ℕ) → Faces (lineTo L) (facePoints L) opposite
+pub line-faces : (L : ℕ) → Faces (lineTo L) (facePoints L) faceAcross
 unfolding lineTo
 line-faces L =
     record {
-      either = λ e i. either-way (leaves L (side L (e .level)) (2 * i) (e .x)) _;
+      either = λ e i. either-way (offEdge L (side L (e .level)) (2 * i) (e .x)) _;
       across = λ e f i sound small.
-          when-accepted (λ (g : Line). Across (lineTo L) (facePoints L) opposite e g i) (leaves L (side L (e .level)) (2 * i) (e .x)) _ f
+          when-accepted (λ (g : Line). Across (lineTo L) (facePoints L) faceAcross e g i) (offEdge L (side L (e .level)) (2 * i) (e .x)) _ f
           (across-there L e i sound small);
       back = λ e f i sound small.
-          when-accepted (λ (g : Line). neighbour L g (opposite i) ≡ accepted e) (leaves L (side L (e .level)) (2 * i) (e .x)) _ f
+          when-accepted (λ (g : Line). neighbour L g (faceAcross i) ≡ accepted e) (offEdge L (side L (e .level)) (2 * i) (e .x)) _ f
           (back-there L e i sound small);
       alone = λ e f i sound small answer a.
-          when-refused (leaves L (side L (e .level)) (2 * i) (e .x)) _ answer (reached L e i sound small f a);
+          when-refused (offEdge L (side L (e .level)) (2 * i) (e .x)) _ answer (reached L e i sound small f a);
     }

@@ -1,7 +1,8 @@
 -- Document 01, "Elements": lines. L is the highest level. Definitions only.
 --
 --   "Lower line half is 0, upper is 1."   "Line face 0 is x-h, face 1 is x+h."
---   "children 2 ..; faces 2": 1 level above the highest, 2 anchor 2^21 or more, or no multiple of h
+--   "children 2 ..; faces 2 ..; corners 2"
+--   Faults: 1 level above the highest, 2 anchor 2^21 or more, or no multiple of h
 --
 --   lineTo L      lines as a shape, highest level L
 --   line          "highest level 21 for all three"
@@ -17,7 +18,7 @@ use lib.Dec.{ltb, eqb}
 use lib.ListN.{length, getD}
 use Rattle.paper.specs.Outcome.{Outcome, accepted, refused, refuse-when, fault-when, rows}
 use Rattle.tree.specs.Shape.{Shape}
-use Rattle.tree.specs.Anchors.{side, offGrid, rounded, bitAt, moved, leaves}
+use Rattle.tree.specs.Anchors.{side, offGrid, rounded, bitAt, moved, offEdge}
 use Rattle.line.specs.declared.Line.{Line}
 use Rattle.line.specs.declared.LineAnswer.{LineAnswer}
 use Rattle.line.specs.declared.LineAnswer.the-variants.{Is, Refused}
@@ -38,7 +39,7 @@ module _ (L : ℕ) where
   -- face 0 is 0 sides from -1 on, face 1 is 2
   abbrev pub neighbour : Line → ℕ → Outcome Line
   neighbour e i =
-      refuse-when (leaves L (side L (e .level)) (2 * i) (e .x)) 10
+      refuse-when (offEdge L (side L (e .level)) (2 * i) (e .x)) 10
       (accepted (record { x = moved (side L (e .level)) (2 * i) (e .x); level = e .level }))
 
   unfoldable pub lineTo : Shape Line
@@ -46,6 +47,7 @@ module _ (L : ℕ) where
       record {
         children = 2;
         faces = 2;
+        corners = 2;
         highest = L;
         level = λ e. e .level;
         fault = fault;

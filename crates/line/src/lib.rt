@@ -82,7 +82,7 @@ impl Line {
         if 21 <= self.level {
             return LineAnswer::Refused(7, 0);
         }
-        if 2 <= number {
+        if Self::CHILDREN <= number {
             return LineAnswer::Refused(8, 0);
         }
         LineAnswer::Is(self.down(number))
@@ -146,7 +146,7 @@ impl Line {
         if fault != 0 {
             return LineAnswer::Refused(fault, 0);
         }
-        if 2 <= face {
+        if Self::FACES <= face {
             return LineAnswer::Refused(8, 0);
         }
         self.across(face)

@@ -8,7 +8,7 @@ use native.Mathlib.Decide.{decLt}
 use native.Mathlib.Omega.{arith}
 use borrow.Author.Tests.{lt-ltb, le-ltb}
 use Rattle.paper.specs.Outcome.{Outcome, accepted, refused, mapped, refuse-when}
-use Rattle.tree.specs.Anchors.{side, moved, leaves}
+use Rattle.tree.specs.Anchors.{side, moved, offEdge}
 use Rattle.tree.proofs.Anchor.{grid-lt}
 use Rattle.tree.proofs.Move.{moved-gone, moved-stays, moved-is, still, still-stays}
 use Rattle.tree.proofs.Cases.{below-2, below-3, below-5}
@@ -48,9 +48,9 @@ side-upright t i kind small =
 -- ---- the step of a row; h is the side
 abbrev out : Prism → Side → ℕ → Bool
 out e s h =
-    leaves 21 h (s .x) (e .x)
-    || (leaves 21 h (s .y) (e .y)
-    || (leaves 21 h (s .z) (e .z) || not (insideRoot (s .kind) (moved h (s .x) (e .x)) (moved h (s .y) (e .y)))))
+    offEdge 21 h (s .x) (e .x)
+    || (offEdge 21 h (s .y) (e .y)
+    || (offEdge 21 h (s .z) (e .z) || not (insideRoot (s .kind) (moved h (s .x) (e .x)) (moved h (s .y) (e .y)))))
 
 abbrev there : Prism → Side → ℕ → Prism
 there e s h = record { x = moved h (s .x) (e .x); y = moved h (s .y) (e .y); z = moved h (s .z) (e .z); level = e .level; kind = s .kind }
@@ -82,8 +82,8 @@ module _ (e : Prism) (sound : fault 21 e ≡ 0) where
       let rest = not (insideRoot (f .kind) (moved h (f .x) (e .x)) (moved h (f .y) (e .y))) in
       let stays = still-stays 21 h (e .z) (grid-lt 21 (e .level) (e .z) (grids 21 e sound .1)) in
       simp (lt-ltb i 3 small)
-      (mapped-refuse (λ (t : Triangle). joined t (lineOf e)) (leaves 21 h (f .x) (e .x) || (leaves 21 h (f .y) (e .y) || rest)) (record { x = moved h (f .x) (e .x); y = moved h (f .y) (e .y); level = e .level; kind = f .kind })
-      ∙ ap₂ (λ (t : Bool) (z : ℕ). refuse-when (leaves 21 h (f .x) (e .x) || (leaves 21 h (f .y) (e .y) || t)) 10 (accepted (record { x = moved h (f .x) (e .x); y = moved h (f .y) (e .y); z = z; level = e .level; kind = f .kind })))
+      (mapped-refuse (λ (t : Triangle). joined t (lineOf e)) (offEdge 21 h (f .x) (e .x) || (offEdge 21 h (f .y) (e .y) || rest)) (record { x = moved h (f .x) (e .x); y = moved h (f .y) (e .y); level = e .level; kind = f .kind })
+      ∙ ap₂ (λ (t : Bool) (z : ℕ). refuse-when (offEdge 21 h (f .x) (e .x) || (offEdge 21 h (f .y) (e .y) || t)) 10 (accepted (record { x = moved h (f .x) (e .x); y = moved h (f .y) (e .y); z = z; level = e .level; kind = f .kind })))
       (sym (ap (λ (m : Bool). m || rest) stays))
       (sym (still h (e .z)))
       ∙ ap (acrossBy e) (sym (side-plan (e .kind) i (k .typed) small)))
@@ -97,15 +97,15 @@ module _ (e : Prism) (sound : fault 21 e ≡ 0) where
       let stays-y = still-stays 21 h (e .y) (grid-lt 21 (e .level) (e .y) (k .grid-y)) in
       let inside : not (insideRoot (e .kind) (moved h 1 (e .x)) (moved h 1 (e .y))) ≡ false =
       ap₂ (λ (a b : ℕ). not (insideRoot (e .kind) a b)) (still h (e .x)) (still h (e .y)) ∙ ap not (k .inside) in
-      let test : out e (sided 1 1 m (e .kind)) h ≡ leaves 21 h m (e .z) =
-      ap₂ (λ (a b : Bool). a || (b || (leaves 21 h m (e .z) || not (insideRoot (e .kind) (moved h 1 (e .x)) (moved h 1 (e .y)))))) stays-x stays-y
-      ∙ ap (λ (t : Bool). leaves 21 h m (e .z) || t) inside
-      ∙ or-last (leaves 21 h m (e .z)) in
+      let test : out e (sided 1 1 m (e .kind)) h ≡ offEdge 21 h m (e .z) =
+      ap₂ (λ (a b : Bool). a || (b || (offEdge 21 h m (e .z) || not (insideRoot (e .kind) (moved h 1 (e .x)) (moved h 1 (e .y)))))) stays-x stays-y
+      ∙ ap (λ (t : Bool). offEdge 21 h m (e .z) || t) inside
+      ∙ or-last (offEdge 21 h m (e .z)) in
       let here : there e (sided 1 1 m (e .kind)) h ≡ joined (triangleOf e) (record { x = moved h m (e .z); level = e .level }) =
       λ j. record { x = still h (e .x) j; y = still h (e .y) j; z = moved h m (e .z); level = e .level; kind = e .kind } in
       simp (le-ltb (3 + i) 3 (omega arith))
       (ap (λ (n : ℕ). mapped (λ (l : Line). joined (triangleOf e) l) (line.neighbour 21 (lineOf e) n)) same
-      ∙ mapped-refuse (λ (l : Line). joined (triangleOf e) l) (leaves 21 h m (e .z)) (record { x = moved h m (e .z); level = e .level })
+      ∙ mapped-refuse (λ (l : Line). joined (triangleOf e) l) (offEdge 21 h m (e .z)) (record { x = moved h m (e .z); level = e .level })
       ∙ sym (ap₂ (λ (t : Bool) (f : Prism). refuse-when t 10 (accepted f)) test here)
       ∙ ap (acrossBy e) (sym (side-upright (e .kind) i (k .typed) small)))
 
@@ -126,9 +126,9 @@ module _ (e : Prism) (sound : fault 21 e ≡ 0) where
 
 -- ---- the code's way out. s is the row; w is the side, x, y and z the moved coordinates, as the code has them
 module _ (e : Prism) (s : Side) (w x y z : ℕ) (sized : w ≡ side 21 (e .level))
-    (at-x : x ≡ cond (leaves 21 w (s .x) (e .x)) 4294967295 (moved w (s .x) (e .x)))
-    (at-y : y ≡ cond (leaves 21 w (s .y) (e .y)) 4294967295 (moved w (s .y) (e .y)))
-    (at-z : z ≡ cond (leaves 21 w (s .z) (e .z)) 4294967295 (moved w (s .z) (e .z))) where
+    (at-x : x ≡ cond (offEdge 21 w (s .x) (e .x)) 4294967295 (moved w (s .x) (e .x)))
+    (at-y : y ≡ cond (offEdge 21 w (s .y) (e .y)) 4294967295 (moved w (s .y) (e .y)))
+    (at-z : z ≡ cond (offEdge 21 w (s .z) (e .z)) 4294967295 (moved w (s .z) (e .z))) where
   across-is : refuse-when (out e s w) 10 (accepted (there e s w)) ≡ acrossBy e s
   across-is = ap (λ (n : ℕ). refuse-when (out e s n) 10 (accepted (there e s n))) sized
 
@@ -136,21 +136,21 @@ module _ (e : Prism) (s : Side) (w x y z : ℕ) (sized : w ≡ side 21 (e .level
   gone-x gone = sym (simp (moved-gone w (s .x) (e .x) x at-x gone)) ∙ across-is
 
   module _ (here-x : x ≡ 4294967295 → ⊥) where
-    stays-x : leaves 21 w (s .x) (e .x) ≡ false
+    stays-x : offEdge 21 w (s .x) (e .x) ≡ false
     stays-x = moved-stays w (s .x) (e .x) x at-x here-x
 
     pub gone-y : y ≡ 4294967295 → refused 10 0 ≡ acrossBy e s
     gone-y gone = sym (simp (stays-x, moved-gone w (s .y) (e .y) y at-y gone)) ∙ across-is
 
     module _ (here-y : y ≡ 4294967295 → ⊥) where
-      stays-y : leaves 21 w (s .y) (e .y) ≡ false
+      stays-y : offEdge 21 w (s .y) (e .y) ≡ false
       stays-y = moved-stays w (s .y) (e .y) y at-y here-y
 
       pub gone-z : z ≡ 4294967295 → refused 10 0 ≡ acrossBy e s
       gone-z gone = sym (simp (stays-x, stays-y, moved-gone w (s .z) (e .z) z at-z gone)) ∙ across-is
 
       module _ (here-z : z ≡ 4294967295 → ⊥) where
-        stays-z : leaves 21 w (s .z) (e .z) ≡ false
+        stays-z : offEdge 21 w (s .z) (e .z) ≡ false
         stays-z = moved-stays w (s .z) (e .z) z at-z here-z
 
         -- the test of the root, at the moved coordinates

@@ -27,7 +27,7 @@ use Rattle.triangle.specs.Elements as triangle
 use Rattle.triangle.specs.Points as triangle-points
 use Rattle.prism.specs.declared.Prism.{Prism}
 use Rattle.prism.specs.Elements.{prismTo, fault, neighbour, triangleOf, lineOf, joined}
-use Rattle.prism.specs.Points.{Corner, lifted, facePoints, opposite}
+use Rattle.prism.specs.Points.{Corner, lifted, facePoints, faceAcross}
 use Rattle.prism.proofs.Laws.{triangle-sound, line-sound, joined-sound}
 
 -- ---- the corner points
@@ -60,10 +60,10 @@ height-back L m t (suc zero) = refl
 height-back L m t (suc (suc i)) = refl
 
 module _ (L : ℕ) where
-  T : Faces (triangleTo L) (triangle-points.facePoints L) triangle-points.opposite
+  T : Faces (triangleTo L) (triangle-points.facePoints L) triangle-points.faceAcross
   T = triangle-faces L
 
-  M : Faces (lineTo L) (line-points.facePoints L) line-points.opposite
+  M : Faces (lineTo L) (line-points.facePoints L) line-points.faceAcross
   M = line-faces L
 
   -- ---- faces 0 to 2: the line is kept
@@ -74,24 +74,24 @@ module _ (L : ℕ) where
   unfolding neighbour
   neighbour-around e = below-3 (λ (i : ℕ). neighbour L e i ≡ around e i) refl refl refl
 
-  around-opposite : (i : ℕ) → i < 3 → opposite i ≡ 2 - i
-  around-opposite = below-3 (λ (i : ℕ). opposite i ≡ 2 - i) refl refl refl
+  around-opposite : (i : ℕ) → i < 3 → faceAcross i ≡ 2 - i
+  around-opposite = below-3 (λ (i : ℕ). faceAcross i ≡ 2 - i) refl refl refl
 
   around-points : (e : Prism) (i : ℕ) → i < 3 → facePoints L e i ≡ walls L (lineOf e) (triangle-points.facePoints L (triangleOf e) i)
   around-points e =
       below-3 (λ (i : ℕ). facePoints L e i ≡ walls L (lineOf e) (triangle-points.facePoints L (triangleOf e) i)) refl refl refl
 
   around-shared : (f : Prism) (i : ℕ) → i < 3
-      → facePoints L f (opposite i) ≡ walls L (lineOf f) (triangle-points.facePoints L (triangleOf f) (2 - i))
+      → facePoints L f (faceAcross i) ≡ walls L (lineOf f) (triangle-points.facePoints L (triangleOf f) (2 - i))
   around-shared f i small = ap (facePoints L f) (around-opposite i small) ∙ around-points f (2 - i) (omega arith)
 
   module _ (e : Prism) (i : ℕ) (sound : fault L e ≡ 0) (small : i < 3) where
-    module _ (t : Triangle) (a : Across (triangleTo L) (triangle-points.facePoints L) triangle-points.opposite (triangleOf e) t i) where
+    module _ (t : Triangle) (a : Across (triangleTo L) (triangle-points.facePoints L) triangle-points.faceAcross (triangleOf e) t i) where
       line-kept : lineOf (joined t (lineOf e)) ≡ lineOf e
       unfolding triangleTo
       line-kept = line-path _ _ refl (a .level)
 
-      around-across : Across (prismTo L) (facePoints L) opposite e (joined t (lineOf e)) i
+      around-across : Across (prismTo L) (facePoints L) faceAcross e (joined t (lineOf e)) i
       unfolding prismTo triangleTo
       around-across =
           record {
@@ -102,15 +102,15 @@ module _ (L : ℕ) where
             other = λ same. a .other (ap triangleOf same);
           }
 
-      around-back : triangle.neighbour L t (2 - i) ≡ accepted (triangleOf e) → neighbour L (joined t (lineOf e)) (opposite i) ≡ accepted e
+      around-back : triangle.neighbour L t (2 - i) ≡ accepted (triangleOf e) → neighbour L (joined t (lineOf e)) (faceAcross i) ≡ accepted e
       around-back back =
           ap (neighbour L (joined t (lineOf e))) (around-opposite i small)
           ∙ neighbour-around (joined t (lineOf e)) (2 - i) (omega arith)
           ∙ ap₂ (λ (m : Line) (o : Outcome Triangle). mapped (λ (s : Triangle). joined s m) o) line-kept back
 
     -- whoever lies across, its triangle does
-    around-from : (f : Prism) → Across (prismTo L) (facePoints L) opposite e f i
-        → Across (triangleTo L) (triangle-points.facePoints L) triangle-points.opposite (triangleOf e) (triangleOf f) i
+    around-from : (f : Prism) → Across (prismTo L) (facePoints L) faceAcross e f i
+        → Across (triangleTo L) (triangle-points.facePoints L) triangle-points.faceAcross (triangleOf e) (triangleOf f) i
     unfolding prismTo triangleTo
     around-from f a =
         let shared : walls L (lineOf e) (triangle-points.facePoints L (triangleOf e) i) ≡ walls L (lineOf f) (triangle-points.facePoints L (triangleOf f) (2 - i)) =
@@ -133,22 +133,22 @@ module _ (L : ℕ) where
   unfolding neighbour
   neighbour-along e = below-2 (λ (i : ℕ). neighbour L e (3 + i) ≡ along e i) refl refl
 
-  along-opposite : (i : ℕ) → i < 2 → opposite (3 + i) ≡ 3 + (1 - i)
-  along-opposite = below-2 (λ (i : ℕ). opposite (3 + i) ≡ 3 + (1 - i)) refl refl
+  along-opposite : (i : ℕ) → i < 2 → faceAcross (3 + i) ≡ 3 + (1 - i)
+  along-opposite = below-2 (λ (i : ℕ). faceAcross (3 + i) ≡ 3 + (1 - i)) refl refl
 
   along-points : (e : Prism) (i : ℕ) → i < 2 → facePoints L e (3 + i) ≡ cap L (triangleOf e) (line-points.corner L (lineOf e) i)
   along-points e = below-2 (λ (i : ℕ). facePoints L e (3 + i) ≡ cap L (triangleOf e) (line-points.corner L (lineOf e) i)) refl refl
 
-  along-shared : (f : Prism) (i : ℕ) → i < 2 → facePoints L f (opposite (3 + i)) ≡ cap L (triangleOf f) (line-points.corner L (lineOf f) (1 - i))
+  along-shared : (f : Prism) (i : ℕ) → i < 2 → facePoints L f (faceAcross (3 + i)) ≡ cap L (triangleOf f) (line-points.corner L (lineOf f) (1 - i))
   along-shared f i small = ap (facePoints L f) (along-opposite i small) ∙ along-points f (1 - i) (omega arith)
 
   module _ (e : Prism) (i : ℕ) (sound : fault L e ≡ 0) (small : i < 2) where
-    module _ (m : Line) (a : Across (lineTo L) (line-points.facePoints L) line-points.opposite (lineOf e) m i) where
+    module _ (m : Line) (a : Across (lineTo L) (line-points.facePoints L) line-points.faceAcross (lineOf e) m i) where
       line-there : lineOf (joined (triangleOf e) m) ≡ m
       unfolding lineTo
       line-there = line-path _ _ refl (sym (a .level))
 
-      along-across : Across (prismTo L) (facePoints L) opposite e (joined (triangleOf e) m) (3 + i)
+      along-across : Across (prismTo L) (facePoints L) faceAcross e (joined (triangleOf e) m) (3 + i)
       unfolding prismTo lineTo
       along-across =
           record {
@@ -161,15 +161,15 @@ module _ (L : ℕ) where
             other = λ same. a .other (ap lineOf same ∙ line-there);
           }
 
-      along-back : line.neighbour L m (1 - i) ≡ accepted (lineOf e) → neighbour L (joined (triangleOf e) m) (opposite (3 + i)) ≡ accepted e
+      along-back : line.neighbour L m (1 - i) ≡ accepted (lineOf e) → neighbour L (joined (triangleOf e) m) (faceAcross (3 + i)) ≡ accepted e
       along-back back =
           ap (neighbour L (joined (triangleOf e) m)) (along-opposite i small)
           ∙ neighbour-along (joined (triangleOf e) m) (1 - i) (omega arith)
           ∙ ap (λ (n : Line). mapped (λ (o : Line). joined (triangleOf e) o) (line.neighbour L n (1 - i))) line-there
           ∙ ap (mapped (λ (o : Line). joined (triangleOf e) o)) back
 
-    along-from : (f : Prism) → Across (prismTo L) (facePoints L) opposite e f (3 + i)
-        → Across (lineTo L) (line-points.facePoints L) line-points.opposite (lineOf e) (lineOf f) i
+    along-from : (f : Prism) → Across (prismTo L) (facePoints L) faceAcross e f (3 + i)
+        → Across (lineTo L) (line-points.facePoints L) line-points.faceAcross (lineOf e) (lineOf f) i
     unfolding prismTo lineTo
     along-from f a =
         let heights : line-points.corner L (lineOf e) i ≡ line-points.corner L (lineOf f) (1 - i) =
@@ -198,10 +198,10 @@ module _ (L : ℕ) where
     -- what holds of each that lies across and leads back, holds of the neighbour
     accepted-by : (Q : Prism → ℕ → Type 0)
         → ((i : ℕ) (small : i < 3) (t : Triangle)
-        → (a : Across (triangleTo L) (triangle-points.facePoints L) triangle-points.opposite (triangleOf e) t i)
+        → (a : Across (triangleTo L) (triangle-points.facePoints L) triangle-points.faceAcross (triangleOf e) t i)
         → triangle.neighbour L t (2 - i) ≡ accepted (triangleOf e) → Q (joined t (lineOf e)) i)
         → ((i : ℕ) (small : i < 2) (m : Line)
-        → (a : Across (lineTo L) (line-points.facePoints L) line-points.opposite (lineOf e) m i)
+        → (a : Across (lineTo L) (line-points.facePoints L) line-points.faceAcross (lineOf e) m i)
         → line.neighbour L m (1 - i) ≡ accepted (lineOf e) → Q (joined (triangleOf e) m) (3 + i))
         → (f : Prism) (i : ℕ) → i < 5 → neighbour L e i ≡ accepted f → Q f i
     unfolding triangleTo lineTo
@@ -218,22 +218,22 @@ module _ (L : ℕ) where
         (λ m here. high i small m (M .across (lineOf e) m i upright small here) (M .back (lineOf e) m i upright small here))
         (sym (neighbour-along e i small) ∙ answer))
 
-    across : (f : Prism) (i : ℕ) → i < 5 → neighbour L e i ≡ accepted f → Across (prismTo L) (facePoints L) opposite e f i
+    across : (f : Prism) (i : ℕ) → i < 5 → neighbour L e i ≡ accepted f → Across (prismTo L) (facePoints L) faceAcross e f i
     across =
-        accepted-by (λ (f : Prism) (i : ℕ). Across (prismTo L) (facePoints L) opposite e f i)
+        accepted-by (λ (f : Prism) (i : ℕ). Across (prismTo L) (facePoints L) faceAcross e f i)
         (λ i small t a turned. around-across e i sound small t a)
         (λ i small m a turned. along-across e i sound small m a)
 
-    back : (f : Prism) (i : ℕ) → i < 5 → neighbour L e i ≡ accepted f → neighbour L f (opposite i) ≡ accepted e
+    back : (f : Prism) (i : ℕ) → i < 5 → neighbour L e i ≡ accepted f → neighbour L f (faceAcross i) ≡ accepted e
     back =
-        accepted-by (λ (f : Prism) (i : ℕ). neighbour L f (opposite i) ≡ accepted e)
+        accepted-by (λ (f : Prism) (i : ℕ). neighbour L f (faceAcross i) ≡ accepted e)
         (λ i small t a turned. around-back e i sound small t a turned)
         (λ i small m a turned. along-back e i sound small m a turned)
 
-    alone : (f : Prism) (i : ℕ) → i < 5 → neighbour L e i ≡ refused 10 0 → Across (prismTo L) (facePoints L) opposite e f i → ⊥
+    alone : (f : Prism) (i : ℕ) → i < 5 → neighbour L e i ≡ refused 10 0 → Across (prismTo L) (facePoints L) faceAcross e f i → ⊥
     unfolding triangleTo lineTo
     alone f =
-        each (λ (i : ℕ). neighbour L e i ≡ refused 10 0 → Across (prismTo L) (facePoints L) opposite e f i → ⊥)
+        each (λ (i : ℕ). neighbour L e i ≡ refused 10 0 → Across (prismTo L) (facePoints L) faceAcross e f i → ⊥)
         (λ i small answer a.
         T .alone (triangleOf e) (triangleOf f) i (triangle-sound L e sound) small
         (mapped-refused _ (triangle.neighbour L (triangleOf e) i) (sym (neighbour-around e i small) ∙ answer))
@@ -243,7 +243,7 @@ module _ (L : ℕ) where
         (mapped-refused _ (line.neighbour L (lineOf e) i) (sym (neighbour-along e i small) ∙ answer))
         (along-from e i sound small f a))
 
-pub prism-faces : (L : ℕ) → Faces (prismTo L) (facePoints L) opposite
+pub prism-faces : (L : ℕ) → Faces (prismTo L) (facePoints L) faceAcross
 unfolding prismTo
 prism-faces L =
     record {

@@ -3,8 +3,8 @@
 --   "Inside the root means y <= x for type 0 and y < x for type 1; z is free"
 --   "A prism child's number is 4 times the line number plus the triangle number."
 --   "Prism faces 0 to 2 follow the triangle; face 3 is z-h, face 4 is z+h, same type."
---   "children .. 8; faces .. 5": 1 level above the highest, 2 anchor 2^21 or more, or no multiple of h, 3 type above 1, 4 outside
---   the root
+--   "children .. 8; faces .. 5; corners .. 6"
+--   Faults: 1 level above the highest, 2 anchor 2^21 or more, or no multiple of h, 3 type above 1, 4 outside the root
 --
 --   triangleOf, lineOf   the two that a prism is the product of; joined puts them together again
 --   prismTo L            prisms as a shape, highest level L
@@ -69,6 +69,7 @@ module _ (L : ℕ) where
       record {
         children = 8;
         faces = 5;
+        corners = 6;
         highest = L;
         level = λ e. e .level;
         fault = fault;

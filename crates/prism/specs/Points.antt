@@ -4,7 +4,7 @@
 --   corner L e i       "corners 0 to 2 at z, 3 to 5 at z+h"
 --   facePoints L e i   the corner points of face i (the thesis's definition 27): of a side, those of the triangle's face at both
 --                      heights; below and above, the whole triangle
---   opposite i         the number of that face as the neighbour has it
+--   faceAcross i         the number of that face as the neighbour has it
 --
 -- Assumes nothing.
 use mathlib.Core.Bool.{cond}
@@ -35,5 +35,5 @@ facePoints L e i =
     (map (lifted (line.corner L (lineOf e) (i - 3)))
     (triangle.corner L (triangleOf e) 0 ∷ triangle.corner L (triangleOf e) 1 ∷ triangle.corner L (triangleOf e) 2 ∷ []))
 
-abbrev pub opposite : ℕ → ℕ
-opposite i = cond (ltb i 3) (triangle.opposite i) (3 + line.opposite (i - 3))
+abbrev pub faceAcross : ℕ → ℕ
+faceAcross i = cond (ltb i 3) (triangle.faceAcross i) (3 + line.faceAcross (i - 3))

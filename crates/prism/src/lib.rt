@@ -85,7 +85,7 @@ impl Prism {
         if 21 <= self.level {
             return PrismAnswer::Refused(7, 0);
         }
-        if 8 <= number {
+        if Self::CHILDREN <= number {
             return PrismAnswer::Refused(8, 0);
         }
         PrismAnswer::Is(self.down(number))
@@ -155,7 +155,7 @@ impl Prism {
         if fault != 0 {
             return PrismAnswer::Refused(fault, 0);
         }
-        if 5 <= face {
+        if Self::FACES <= face {
             return PrismAnswer::Refused(8, 0);
         }
         self.across(face)

@@ -41,12 +41,13 @@ use Rattle.paper.specs.declared.OrderAnswer.the-variants as order-answer
 use Rattle.line.specs.Elements as lines
 use Rattle.triangle.specs.Elements as triangles
 use Rattle.prism.specs.Elements as prisms
-use Rattle.promises.specs.Demand2.{Elements, Determined, Demand2}
+use Rattle.promises.specs.Demand2.{Elements, Determined, OfElements}
 
-elements : {E P : Type 0} (S : Shape E) (index : E → ℕ) (points : E → ℕ → List P) (opposite : ℕ → ℕ)
-    → Lawful S → Ranked S index → Faces S points opposite → Elements S index points opposite
-elements S index points opposite W ranked faces =
+elements : {E P : Type 0} (S : Shape E) (index : E → ℕ) (points : E → ℕ → List P) (faceAcross : ℕ → ℕ)
+    → Lawful S → Ranked S index → Faces S points faceAcross → Elements S index points faceAcross
+elements S index points faceAcross W ranked faces =
     record {
+      lawful = W;
       round-trips = round-trips S W;
       ranked = ranked;
       positions = positions S W;
@@ -113,12 +114,12 @@ order-answers = determined-by orderOf (answer ordered order-answer.Refused) undo
     undo order-answer.Greater = refl
     undo (order-answer.Refused n p) = refl
 
-pub demand-2 : Demand2
-demand-2 =
+pub of-elements : OfElements
+of-elements =
     record {
-      of-lines = elements line lineIndex (line-points.facePoints 21) line-points.opposite (line-laws.lawful 21) (line-ranked 21) (line-faces 21);
-      of-triangles = elements triangle (triangleIndex 21) (triangle-points.facePoints 21) triangle-points.opposite (triangle-laws.lawful 21) (triangle-ranked 21) (triangle-faces 21);
-      of-prisms = elements prism (prismIndex 21) (prism-points.facePoints 21) prism-points.opposite (prism-laws.lawful 21) (prism-ranked 21) (prism-faces 21);
+      of-lines = elements line lineIndex (line-points.facePoints 21) line-points.faceAcross (line-laws.lawful 21) (line-ranked 21) (line-faces 21);
+      of-triangles = elements triangle (triangleIndex 21) (triangle-points.facePoints 21) triangle-points.faceAcross (triangle-laws.lawful 21) (triangle-ranked 21) (triangle-faces 21);
+      of-prisms = elements prism (prismIndex 21) (prism-points.facePoints 21) prism-points.faceAcross (prism-laws.lawful 21) (prism-ranked 21) (prism-faces 21);
       children-are-bey's = bey 21;
       determined = record { line-elements = line-elements; triangle-elements = triangle-elements; prism-elements = prism-elements; positions = position-answers; families = family-answers; orders = order-answers };
     }

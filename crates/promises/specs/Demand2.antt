@@ -3,7 +3,7 @@
 --
 --   Elements      what is promised of one shape, with its index and its faces
 --   Determined f  two answers with the same reading are the same answer
---   Demand2       of all three shapes
+--   OfElements    demand 2, of the elements of all three shapes; lists, files and points have their own
 --
 -- Assumes nothing.
 use mathlib.Core.Path.{_≡_}
@@ -11,7 +11,7 @@ use mathlib.Core.List.{List}
 use Prim.Native.Nat.{ℕ}
 use Rattle.paper.specs.Readings.{positionOf, familyOf, orderOf}
 use Rattle.tree.specs.Shape.{Shape}
-use Rattle.tree.specs.Laws.{RoundTrips, Positions, TotalOrder, Families, Faces}
+use Rattle.tree.specs.Laws.{Lawful, RoundTrips, Positions, TotalOrder, Families, Faces}
 use Rattle.triangle.specs.Points.{Bey}
 use Rattle.index.specs.Index.{lineIndex, triangleIndex, prismIndex}
 use Rattle.index.specs.Rank.{Ranked}
@@ -22,13 +22,14 @@ use Rattle.line.specs.Points as line-points
 use Rattle.triangle.specs.Points as triangle-points
 use Rattle.prism.specs.Points as prism-points
 
-pub record Elements {E P : Type 0} (S : Shape E) (index : E → ℕ) (points : E → ℕ → List P) (opposite : ℕ → ℕ) : Type 0 where
+pub record Elements {E P : Type 0} (S : Shape E) (index : E → ℕ) (points : E → ℕ → List P) (faceAcross : ℕ → ℕ) : Type 0 where
+  pub lawful : Lawful S
   pub round-trips : RoundTrips S
   pub ranked : Ranked S index
   pub positions : Positions S
   pub total-order : TotalOrder S
   pub families : Families S
-  pub faces : Faces S points opposite
+  pub faces : Faces S points faceAcross
 
 abbrev pub Determined : {A B : Type 0} → (A → B) → Type 0
 Determined {A} f = (r s : A) → f r ≡ f s → r ≡ s
@@ -41,9 +42,9 @@ pub record Answers : Type 0 where
   pub families : Determined familyOf
   pub orders : Determined orderOf
 
-pub record Demand2 : Type 0 where
-  pub of-lines : Elements lines.line lineIndex (line-points.facePoints 21) line-points.opposite
-  pub of-triangles : Elements triangles.triangle (triangleIndex 21) (triangle-points.facePoints 21) triangle-points.opposite
-  pub of-prisms : Elements prisms.prism (prismIndex 21) (prism-points.facePoints 21) prism-points.opposite
+pub record OfElements : Type 0 where
+  pub of-lines : Elements lines.line lineIndex (line-points.facePoints 21) line-points.faceAcross
+  pub of-triangles : Elements triangles.triangle (triangleIndex 21) (triangle-points.facePoints 21) triangle-points.faceAcross
+  pub of-prisms : Elements prisms.prism (prismIndex 21) (prism-points.facePoints 21) prism-points.faceAcross
   pub children-are-bey's : Bey 21
   pub determined : Answers

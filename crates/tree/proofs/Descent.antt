@@ -2,11 +2,11 @@
 -- zeros or of last digits behind them. Assumes nothing.
 use mathlib.Core.Path.{_≡_, ap, ap₂, _∙_, sym}
 use Prim.Native.Nat.{ℕ, zero, suc, _+_, _-_, _*_, _/_, _^_, _≤_, _<_}
-use native.Mathlib.Nat.{pow-zero, pow-suc, mul-one, mul-comm, mul-assoc, add-zero}
+use native.Mathlib.Nat.{add-sub-of-le, pow-zero, pow-suc, mul-one, mul-comm, mul-assoc, add-zero}
 use native.Mathlib.Omega.{arith}
 use Rattle.tree.specs.Shape.{Shape}
 use Rattle.tree.specs.Words.{positionAt, position, successor, descend, first, last}
-use Rattle.tree.specs.Laws.{Sound, Lawful, Positions}
+use Rattle.tree.specs.Laws.{Sound, Lawful, Stands, Positions}
 use Rattle.tree.proofs.Digits.{digit-div}
 use Rattle.tree.proofs.RoundTrip.{position-at}
 
@@ -89,6 +89,21 @@ module _ {E : Type 0} (S : Shape E) (W : Lawful S) where
       → position S (last S e l) ≡ (position S e + 1) * S .children ^ (l - S .level e) - 1
   of-last e l sound down room = omega (arith, position-lasts (l - S .level e) e sound (omega arith))
 
+  pub descend-stands : (i : ℕ) (e : E) (l : ℕ) → i < S .children → Sound S e → S .level e ≤ l → l ≤ S .highest → Stands S (descend S i (l - S .level e) e) l
+  descend-stands i e l small sound down room =
+      record {
+        sound = descend-sound i (l - S .level e) e sound small (omega arith);
+        level = descend-level i (l - S .level e) e ∙ add-sub-of-le down;
+      }
+
   pub positions : Positions S
   positions =
-      record { of-parent = of-parent; of-child = of-child; of-successor = of-successor; of-first = of-first; of-last = of-last }
+      record {
+        first-stands = λ e l. descend-stands 0 e l (omega (arith, W .several));
+        last-stands = λ e l. descend-stands (S .children - 1) e l (omega (arith, W .several));
+        of-parent = of-parent;
+        of-child = of-child;
+        of-successor = of-successor;
+        of-first = of-first;
+        of-last = of-last;
+      }

@@ -10,7 +10,7 @@ use lib.Dec.{leb, ltb}
 use borrow.Author.Tests.{le-ltb, lt-leb, ltb-false, leb-false}
 use Rattle.paper.specs.Outcome.{Outcome, accepted, refused, refuse-when, mapped}
 use Rattle.paper.proofs.Tests.{or-none}
-use Rattle.tree.specs.Anchors.{side, offGrid, moved, leaves}
+use Rattle.tree.specs.Anchors.{side, offGrid, moved, offEdge}
 use Rattle.tree.proofs.Cases.{below-3}
 use Rattle.tree.proofs.Anchor.{grid-units}
 
@@ -46,13 +46,13 @@ module _ {A B : Type 0} (g : A → B) where
 
 -- ---- a move that does not leave: s - 1 sides of length h, from x
 module _ (L h s x : ℕ) where
-  pub move-far : leaves L h s x ≡ false → moved h s x + h ≡ x + s * h
+  pub move-far : offEdge L h s x ≡ false → moved h s x + h ≡ x + s * h
   move-far stays = let low = ltb-false (x + s * h) h (or-none (ltb (x + s * h) h) (leb (2 ^ L) (moved h s x)) stays .0) in omega arith
 
-  pub move-lt : leaves L h s x ≡ false → moved h s x < 2 ^ L
+  pub move-lt : offEdge L h s x ≡ false → moved h s x < 2 ^ L
   move-lt stays = leb-false (2 ^ L) (moved h s x) (or-none (ltb (x + s * h) h) (leb (2 ^ L) (moved h s x)) stays .1)
 
-  pub move-reached : (y : ℕ) → y + h ≡ x + s * h → y < 2 ^ L → (leaves L h s x ≡ false) × (moved h s x ≡ y)
+  pub move-reached : (y : ℕ) → y + h ≡ x + s * h → y < 2 ^ L → (offEdge L h s x ≡ false) × (moved h s x ≡ y)
   move-reached y far below =
       let here : moved h s x ≡ y = omega arith in
       (simp (le-ltb (x + s * h) h (omega arith), lt-leb (2 ^ L) (moved h s x) (omega arith)), here)
@@ -61,12 +61,12 @@ module _ (L h s x : ℕ) where
 pub sides-back : (h s : ℕ) → s < 3 → (2 - s) * h + s * h ≡ 2 * h
 sides-back h = below-3 (λ (s : ℕ). (2 - s) * h + s * h ≡ 2 * h) (omega arith) (omega arith) (omega arith)
 
-pub move-back : (L h s x : ℕ) → s < 3 → x < 2 ^ L → leaves L h s x ≡ false
-    → (leaves L h (2 - s) (moved h s x) ≡ false) × (moved h (2 - s) (moved h s x) ≡ x)
+pub move-back : (L h s x : ℕ) → s < 3 → x < 2 ^ L → offEdge L h s x ≡ false
+    → (offEdge L h (2 - s) (moved h s x) ≡ false) × (moved h (2 - s) (moved h s x) ≡ x)
 move-back L h s x small below stays =
     move-reached L h (2 - s) (moved h s x) x (omega (arith, move-far L h s x stays, sides-back h s small)) below
 
-pub move-grid : (L l s x : ℕ) → offGrid L l x ≡ false → leaves L (side L l) s x ≡ false → offGrid L l (moved (side L l) s x) ≡ false
+pub move-grid : (L l s x : ℕ) → offGrid L l x ≡ false → offEdge L (side L l) s x ≡ false → offGrid L l (moved (side L l) s x) ≡ false
 move-grid L l s x on stays =
     let h = side L l in
     let y = moved h s x in

@@ -1,10 +1,11 @@
 -- What is promised of the elements of every shape, as statements; `proofs/` proves them from what each shape shows of itself
 -- (`Lawful`), over the number of children and the highest level. Definitions only.
 --
---   Sound e        e passes the checks on an element
+--   Sound e        e is a valid element: it passes the checks on an element
 --   Lawful         what a shape shows of its own tables: one step down and one step up undo each other, among sound elements
 --   RoundTrips     "each position below eight to the power of the level gives back its element", and the other way round
---   Positions      the positions of parent, child, successor, first and last descendant
+--   Positions      the positions of parent, child, successor, first and last descendant; that the descendants are valid and of the asked
+--                  level (of parent and child `Lawful` says it)
 --   TotalOrder     the order of two is a total order
 --   Faces          a face neighbour shares that whole face and is valid, its neighbour across its own face is the element again, and
 --                  refused 10 means that no other valid element of the level lies across; `points` gives the corner points of a face
@@ -51,7 +52,14 @@ module _ {E : Type 0} (S : Shape E) where
     pub position-lt : (e : E) → Sound e → position S e < S .children ^ S .level e
     pub at-position : (e : E) → Sound e → at S (S .level e) (position S e) ≡ e
 
+  -- f is a valid element of level l
+  pub record Stands (f : E) (l : ℕ) : Type 0 where
+    pub sound : Sound f
+    pub level : S .level f ≡ l
+
   pub record Positions : Type 0 where
+    pub first-stands : (e : E) (l : ℕ) → Sound e → S .level e ≤ l → l ≤ S .highest → Stands (first S e l) l
+    pub last-stands : (e : E) (l : ℕ) → Sound e → S .level e ≤ l → l ≤ S .highest → Stands (last S e l) l
     pub of-parent : (e : E) → Sound e → 0 < S .level e → position S (S .parent e) ≡ position S e / S .children
     pub of-child : (e : E) (i : ℕ) → Sound e → S .level e < S .highest → i < S .children
         → position S (S .child e i) ≡ S .children * position S e + i
@@ -73,17 +81,17 @@ module _ {E : Type 0} (S : Shape E) where
     pub only-children : (es : List E) → ((e : E) → List·Memᴰ e es → Sound e) → family S es ≡ true
         → (f : E) × (Sound f × S .level f < S .highest × es ≡ childrenOf f)
 
-  module _ {P : Type 0} (points : E → ℕ → List P) (opposite : ℕ → ℕ) where
+  module _ {P : Type 0} (points : E → ℕ → List P) (faceAcross : ℕ → ℕ) where
     -- f lies across face i of e
     pub record Across (e f : E) (i : ℕ) : Type 0 where
       pub sound : Sound f
       pub level : S .level f ≡ S .level e
-      pub shared : points e i ≡ points f (opposite i)
+      pub shared : points e i ≡ points f (faceAcross i)
       -- face 1 of a triangle is face 1 across too, so the element itself has it
       pub other : e ≡ f → ⊥
 
     pub record Faces : Type 0 where
       pub either : (e : E) (i : ℕ) → (S .neighbour e i ≡ refused 10 0) ⊎ ((f : E) × (S .neighbour e i ≡ accepted f))
       pub across : (e f : E) (i : ℕ) → Sound e → i < S .faces → S .neighbour e i ≡ accepted f → Across e f i
-      pub back : (e f : E) (i : ℕ) → Sound e → i < S .faces → S .neighbour e i ≡ accepted f → S .neighbour f (opposite i) ≡ accepted e
+      pub back : (e f : E) (i : ℕ) → Sound e → i < S .faces → S .neighbour e i ≡ accepted f → S .neighbour f (faceAcross i) ≡ accepted e
       pub alone : (e f : E) (i : ℕ) → Sound e → i < S .faces → S .neighbour e i ≡ refused 10 0 → Across e f i → ⊥

@@ -1,7 +1,7 @@
 -- Document 01, "What is built": "Each shape states its own constants". What a line, a triangle and a prism have in common.
 -- Definitions only.
 --
---   children, faces   "children 2, 4, 8; faces 2, 3, 5"
+--   children, faces, corners   "children 2, 4, 8; faces 2, 3, 5; corners 2, 3, 6"
 --   highest           the highest level
 --   level e           the element's level
 --   fault e           "Checks on an element: 1, 2, 3, 4": the number of the first that it fails, 0 where it passes all
@@ -21,6 +21,7 @@ use Rattle.paper.specs.Outcome.{Outcome}
 pub record Shape (E : Type 0) : Type 0 where
   pub children : ℕ
   pub faces : ℕ
+  pub corners : ℕ
   pub highest : ℕ
   pub level : E → ℕ
   pub fault : E → ℕ

@@ -5,7 +5,7 @@ ghost use mathlib.Core.Bool.{cond};
 ghost use Rattle.paper.specs.Outcome.{accepted, same};
 ghost use Rattle.paper.specs.Readings.{orderOf};
 ghost use Rattle.tree.specs.Anchors as anchors;
-ghost use Rattle.tree.specs.Anchors.{offGrid, bitAt, leaves};
+ghost use Rattle.tree.specs.Anchors.{offGrid, bitAt, offEdge};
 ghost use Rattle.tree.specs.Words.{compared};
 
 // The side of a level.
@@ -55,7 +55,7 @@ pub const GONE: u32 = 4294967295;
 
 // A coordinate moved by step - 1 sides of length h, or GONE where that leaves the root's edge.
 pub fn moved(x: u32, step: u8, h: u32) -> u32
-    ensures { λ r. ⌜ r ≡ cond (leaves 21 h step x) 4294967295 (anchors.moved h step x) ⌝ }
+    ensures { λ r. ⌜ r ≡ cond (offEdge 21 h step x) 4294967295 (anchors.moved h step x) ⌝ }
 {
     let far = x as u64 + step as u64 * h as u64;
     // Below 0 it wraps, past every edge.

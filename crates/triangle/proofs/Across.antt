@@ -8,7 +8,7 @@ use native.Mathlib.Omega.{arith}
 use lib.Dec.{leb, ltb, eqb, eqb·suc-zero, leb·suc-suc}
 use borrow.Author.Tests.{lt-ltb, le-ltb, le-leb, lt-leb, ltb-true, ltb-false, leb-true, leb-false}
 use Rattle.paper.specs.Outcome.{accepted, refused, refuse-when}
-use Rattle.tree.specs.Anchors.{side, moved, leaves}
+use Rattle.tree.specs.Anchors.{side, moved, offEdge}
 use Rattle.tree.proofs.Move.{moved-gone, moved-stays, moved-is}
 use Rattle.triangle.specs.declared.rows.Step.{Step}
 use Rattle.triangle.specs.declared.Triangle.{Triangle}
@@ -48,11 +48,11 @@ bit-le (suc t) = subst⁻¹ (λ (b : Bool). boolByte (not b) ≤ 1) (eqb·suc-ze
 
 -- ---- across a face. s is its row; h is the side, x and y the moved coordinates, as the code has them
 module _ (e : Triangle) (s : Step) (h x y : ℕ) (sized : h ≡ side 21 (e .level))
-    (at-x : x ≡ cond (leaves 21 h (s .x) (e .x)) 4294967295 (moved h (s .x) (e .x)))
-    (at-y : y ≡ cond (leaves 21 h (s .y) (e .y)) 4294967295 (moved h (s .y) (e .y))) where
+    (at-x : x ≡ cond (offEdge 21 h (s .x) (e .x)) 4294967295 (moved h (s .x) (e .x)))
+    (at-y : y ≡ cond (offEdge 21 h (s .y) (e .y)) 4294967295 (moved h (s .y) (e .y))) where
   -- the definition, with the code's side
   abbrev out : Bool
-  out = leaves 21 h (s .x) (e .x) || (leaves 21 h (s .y) (e .y) || not (insideRoot (s .kind) (moved h (s .x) (e .x)) (moved h (s .y) (e .y))))
+  out = offEdge 21 h (s .x) (e .x) || (offEdge 21 h (s .y) (e .y) || not (insideRoot (s .kind) (moved h (s .x) (e .x)) (moved h (s .y) (e .y))))
 
   abbrev there : Triangle
   there = record { x = moved h (s .x) (e .x); y = moved h (s .y) (e .y); level = e .level; kind = s .kind }
@@ -61,7 +61,7 @@ module _ (e : Triangle) (s : Step) (h x y : ℕ) (sized : h ≡ side 21 (e .leve
   across-is =
       ap
       (λ (k : ℕ).
-      refuse-when (leaves 21 k (s .x) (e .x) || (leaves 21 k (s .y) (e .y) || not (insideRoot (s .kind) (moved k (s .x) (e .x)) (moved k (s .y) (e .y))))) 10
+      refuse-when (offEdge 21 k (s .x) (e .x) || (offEdge 21 k (s .y) (e .y) || not (insideRoot (s .kind) (moved k (s .x) (e .x)) (moved k (s .y) (e .y))))) 10
       (accepted (record { x = moved k (s .x) (e .x); y = moved k (s .y) (e .y); level = e .level; kind = s .kind })))
       sized
 

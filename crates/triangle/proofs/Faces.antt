@@ -11,7 +11,7 @@ use lib.ListN.{getD}
 use borrow.Author.Tests.{not-false}
 use Rattle.paper.specs.Outcome.{accepted, refuse-when}
 use Rattle.paper.proofs.Tests.{or-none}
-use Rattle.tree.specs.Anchors.{side, moved, leaves}
+use Rattle.tree.specs.Anchors.{side, moved, offEdge}
 use Rattle.tree.proofs.Anchor.{side-pos, grid-lt}
 use Rattle.tree.specs.Laws.{Across, Faces}
 use Rattle.tree.proofs.Faces.{either-way, when-accepted, when-refused, move-far, move-reached, move-back, move-grid}
@@ -19,7 +19,7 @@ use Rattle.triangle.specs.declared.rows.Step.{Step}
 use Rattle.triangle.specs.declared.Triangle.{Triangle}
 use Rattle.triangle.specs.Rows.{step, faceRow}
 use Rattle.triangle.specs.Elements.{triangleTo, insideRoot, acrossBy, neighbour}
-use Rattle.triangle.specs.Points.{Point, point, facePoints, opposite}
+use Rattle.triangle.specs.Points.{Point, point, facePoints, faceAcross}
 use Rattle.triangle.proofs.Tables.{each-face, faceRow-small}
 use Rattle.triangle.proofs.Laws.{Known, known, sound, triangle-path}
 
@@ -92,7 +92,7 @@ module _ (L l x y x′ y′ : ℕ) where
 abbrev out : ℕ → Triangle → Step → Bool
 out L e s =
     let h = side L (e .level) in
-    leaves L h (s .x) (e .x) || (leaves L h (s .y) (e .y) || not (insideRoot (s .kind) (moved h (s .x) (e .x)) (moved h (s .y) (e .y))))
+    offEdge L h (s .x) (e .x) || (offEdge L h (s .y) (e .y) || not (insideRoot (s .kind) (moved h (s .x) (e .x)) (moved h (s .y) (e .y))))
 
 abbrev there : ℕ → Triangle → Step → Triangle
 there L e s =
@@ -102,7 +102,7 @@ there L e s =
 -- it leads to what it reaches inside the root
 module _ (L : ℕ) (e : Triangle) (s : Step) (x y : ℕ) where
   abbrev Reached : ℕ → ℕ → ℕ → Type 0
-  Reached d from to = (leaves L (side L (e .level)) d from ≡ false) × (moved (side L (e .level)) d from ≡ to)
+  Reached d from to = (offEdge L (side L (e .level)) d from ≡ false) × (moved (side L (e .level)) d from ≡ to)
 
   module _ (in-x : Reached (s .x) (e .x) x) (in-y : Reached (s .y) (e .y) y) where
     passes : insideRoot (s .kind) x y ≡ true → out L e s ≡ false
@@ -128,11 +128,11 @@ module _ (L : ℕ) (e : Triangle) (i : ℕ) (k : Known L e) (small : i < 3) wher
   bounds = faceRow-small (e .kind) i (k .typed) small
 
   module _ (within : out L e row ≡ false) where
-    stays-x : leaves L width (row .x) (e .x) ≡ false
-    stays-x = or-none (leaves L width (row .x) (e .x)) _ within .0
+    stays-x : offEdge L width (row .x) (e .x) ≡ false
+    stays-x = or-none (offEdge L width (row .x) (e .x)) _ within .0
 
-    rest : (leaves L width (row .y) (e .y) ≡ false) × (not (insideRoot (row .kind) (to .x) (to .y)) ≡ false)
-    rest = or-none (leaves L width (row .y) (e .y)) _ (or-none (leaves L width (row .x) (e .x)) _ within .1)
+    rest : (offEdge L width (row .y) (e .y) ≡ false) × (not (insideRoot (row .kind) (to .x) (to .y)) ≡ false)
+    rest = or-none (offEdge L width (row .y) (e .y)) _ (or-none (offEdge L width (row .x) (e .x)) _ within .1)
 
     known-there : Known L to
     known-there =
@@ -144,7 +144,7 @@ module _ (L : ℕ) (e : Triangle) (i : ℕ) (k : Known L e) (small : i < 3) wher
           inside = not-false (insideRoot (row .kind) (to .x) (to .y)) (rest .1);
         }
 
-    across-there : Across (triangleTo L) (facePoints L) opposite e to i
+    across-there : Across (triangleTo L) (facePoints L) faceAcross e to i
     unfolding triangleTo
     across-there =
         record {
@@ -157,7 +157,7 @@ module _ (L : ℕ) (e : Triangle) (i : ℕ) (k : Known L e) (small : i < 3) wher
           other = λ same. omega (arith, ap (λ (g : Triangle). g .kind) same, other-type (e .kind) i (k .typed) small);
         }
 
-    back-there : neighbour L to (opposite i) ≡ accepted e
+    back-there : neighbour L to (faceAcross i) ≡ accepted e
     back-there =
         let back = step (2 - row .x) (2 - row .y) (e .kind) in
         let in-x = move-back L width (row .x) (e .x) (bounds .0) (grid-lt L (e .level) (e .x) (k .grid-x)) stays-x in
@@ -167,7 +167,7 @@ module _ (L : ℕ) (e : Triangle) (i : ℕ) (k : Known L e) (small : i < 3) wher
         (passes L to back (e .x) (e .y) in-x in-y (k .inside))
         (leads L to back (e .x) (e .y) in-x in-y)
 
-  reached : (f : Triangle) → Across (triangleTo L) (facePoints L) opposite e f i → out L e row ≡ false
+  reached : (f : Triangle) → Across (triangleTo L) (facePoints L) faceAcross e f i → out L e row ≡ false
   unfolding triangleTo
   reached f a = by (ℕ-discrete (e .kind) (f .kind))
     where
@@ -190,16 +190,16 @@ module _ (L : ℕ) (e : Triangle) (i : ℕ) (k : Known L e) (small : i < 3) wher
           (move-reached L width (row .y) (e .y) (f .y) (far .1) (grid-lt L (f .level) (f .y) (kf .grid-y)))
           (subst (λ (t : ℕ). insideRoot t (f .x) (f .y) ≡ true) typed (kf .inside))
 
-pub triangle-faces : (L : ℕ) → Faces (triangleTo L) (facePoints L) opposite
+pub triangle-faces : (L : ℕ) → Faces (triangleTo L) (facePoints L) faceAcross
 unfolding triangleTo
 triangle-faces L =
     record {
       either = λ e i. either-way (out L e (faceRow (e .kind) i)) _;
       across = λ e f i ok small.
-          when-accepted (λ (g : Triangle). Across (triangleTo L) (facePoints L) opposite e g i) (out L e (faceRow (e .kind) i)) _ f
+          when-accepted (λ (g : Triangle). Across (triangleTo L) (facePoints L) faceAcross e g i) (out L e (faceRow (e .kind) i)) _ f
           (across-there L e i (known L e ok) small);
       back = λ e f i ok small.
-          when-accepted (λ (g : Triangle). neighbour L g (opposite i) ≡ accepted e) (out L e (faceRow (e .kind) i)) _ f
+          when-accepted (λ (g : Triangle). neighbour L g (faceAcross i) ≡ accepted e) (out L e (faceRow (e .kind) i)) _ f
           (back-there L e i (known L e ok) small);
       alone = λ e f i ok small answer a.
           when-refused (out L e (faceRow (e .kind) i)) _ answer (reached L e i (known L e ok) small f a);

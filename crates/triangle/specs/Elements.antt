@@ -1,8 +1,8 @@
 -- Document 01, "Elements": triangles. L is the highest level; the field `kind` is the type. Definitions only.
 --
 --   "The root is type 0. Inside the root means y <= x for type 0 and y < x for type 1"
---   "children .. 4 ..; faces .. 3": 1 level above the highest, 2 anchor 2^21 or more, or no multiple of h, 3 type above 1,
---   4 outside the root
+--   "children .. 4 ..; faces .. 3 ..; corners .. 3"
+--   Faults: 1 level above the highest, 2 anchor 2^21 or more, or no multiple of h, 3 type above 1, 4 outside the root
 --
 --   triangleTo L   triangles as a shape, highest level L
 --   triangle       "highest level 21 for all three"
@@ -21,7 +21,7 @@ use lib.Dec.{leb, ltb, eqb}
 use lib.ListN.{length, getD}
 use Rattle.paper.specs.Outcome.{Outcome, accepted, refused, refuse-when, fault-when, rows}
 use Rattle.tree.specs.Shape.{Shape}
-use Rattle.tree.specs.Anchors.{side, offGrid, rounded, bitAt, moved, leaves}
+use Rattle.tree.specs.Anchors.{side, offGrid, rounded, bitAt, moved, offEdge}
 use Rattle.triangle.specs.declared.rows.Step.{Step}
 use Rattle.triangle.specs.declared.Triangle.{Triangle}
 use Rattle.triangle.specs.declared.TriangleAnswer.{TriangleAnswer}
@@ -76,7 +76,7 @@ module _ (L : ℕ) where
       let h = side L (e .level) in
       let x = moved h (s .x) (e .x) in
       let y = moved h (s .y) (e .y) in
-      refuse-when (leaves L h (s .x) (e .x) || (leaves L h (s .y) (e .y) || not (insideRoot (s .kind) x y))) 10
+      refuse-when (offEdge L h (s .x) (e .x) || (offEdge L h (s .y) (e .y) || not (insideRoot (s .kind) x y))) 10
       (accepted (record { x = x; y = y; level = e .level; kind = s .kind }))
 
   abbrev pub neighbour : Triangle → ℕ → Outcome Triangle
@@ -87,6 +87,7 @@ module _ (L : ℕ) where
       record {
         children = 4;
         faces = 3;
+        corners = 3;
         highest = L;
         level = λ e. e .level;
         fault = fault;

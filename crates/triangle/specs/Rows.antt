@@ -4,8 +4,7 @@
 --                    two rows of four": child i of a parent of type t
 --   parentKind s     the type of the parent in whose row the step s stands
 --   numberOf s       its number in that row
---   faceRow t i      "Face neighbours": the neighbour across face i of a triangle of type t; its steps count sides from -1 on, so
---                    0 is -h, 1 stays and 2 is +h
+--   faceRow t i      "Face neighbours": the neighbour across face i of a triangle of type t; its steps are minus, stay or plus
 --
 -- Assumes nothing.
 use mathlib.Core.Bool.{Bool, cond, _&&_}
@@ -13,6 +12,7 @@ use mathlib.Core.List.{List, [], _∷_}
 use Prim.Native.Nat.{ℕ, suc}
 use lib.Dec.{eqb, ltb}
 use lib.ListN.{getD}
+use Rattle.tree.specs.Anchors.{minus, stay, plus}
 use Rattle.triangle.specs.declared.rows.Step.{Step}
 
 abbrev pub step : ℕ → ℕ → ℕ → Step
@@ -51,8 +51,8 @@ numberOf s = placeIn (getD childRows (parentKind s) []) s
 -- | Type | 0 | 1 | 2 |
 abbrev pub faceRows : List (List Step)
 faceRows =
-    (step 2 1 1 ∷ step 1 1 1 ∷ step 1 0 1 ∷ [])
-    ∷ (step 1 2 0 ∷ step 1 1 0 ∷ step 0 1 0 ∷ [])
+    (step plus stay 1 ∷ step stay stay 1 ∷ step stay minus 1 ∷ [])
+    ∷ (step stay plus 0 ∷ step stay stay 0 ∷ step minus stay 0 ∷ [])
     ∷ []
 
 abbrev pub faceRow : ℕ → ℕ → Step

@@ -92,7 +92,7 @@ impl Triangle {
         if 21 <= self.level {
             return TriangleAnswer::Refused(7, 0);
         }
-        if 4 <= number {
+        if Self::CHILDREN <= number {
             return TriangleAnswer::Refused(8, 0);
         }
         TriangleAnswer::Is(self.down(number))
@@ -161,7 +161,7 @@ impl Triangle {
         if fault != 0 {
             return TriangleAnswer::Refused(fault, 0);
         }
-        if 3 <= face {
+        if Self::FACES <= face {
             return TriangleAnswer::Refused(8, 0);
         }
         self.across(face)
