@@ -34,16 +34,16 @@ fault-taken number place rest some = simp (ne-eqb number 0 some)
 pub fault-none : {A : Type 0} (number place : ℕ) (rest : Outcome A) → number ≡ 0 → refuse-when-at (not (eqb number 0)) number place rest ≡ rest
 fault-none number place rest none = simp (eq-eqb number 0 none)
 
-never : {A : Type 0} (a : Unit {0}) (n p : ℕ) → _≡_ {A = Outcome (Unit {0})} (refused n p) (accepted a) → A
+pub never : {A : Type 0} (a : Unit {0}) (n p : ℕ) → _≡_ {A = Outcome (Unit {0})} (refused n p) (accepted a) → A
 never a n p h = absurd (let z : _≡_ {A = ℕ} 0 1 = cc in omega arith)
 
 -- an accepted outcome passed the test, and so did the rest
-accepted-by : (t : Bool) (n p : ℕ) (rest : Outcome (Unit {0})) → refuse-when-at t n p rest ≡ passed → (t ≡ false) × (rest ≡ passed)
+pub accepted-by : (t : Bool) (n p : ℕ) (rest : Outcome (Unit {0})) → refuse-when-at t n p rest ≡ passed → (t ≡ false) × (rest ≡ passed)
 accepted-by true n p rest h = never tt n p h
 accepted-by false n p rest h = (refl, h)
 
 -- a scan that refuses does so whatever would follow
-carry : {B : Type 0} (t : Bool) (n p m q : ℕ) (short : Outcome (Unit {0})) (long : Outcome B) → (short ≡ refused m q → long ≡ refused m q)
+pub carry : {B : Type 0} (t : Bool) (n p m q : ℕ) (short : Outcome (Unit {0})) (long : Outcome B) → (short ≡ refused m q → long ≡ refused m q)
     → refuse-when-at t n p short ≡ refused m q → refuse-when-at t n p long ≡ refused m q
 carry true n p m q short long onward h =
     let number : n ≡ m = cc in

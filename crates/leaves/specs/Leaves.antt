@@ -1,0 +1,69 @@
+-- Document 01, "Leaf lists": leaves, and what a valid list is. n is the number of children, L the highest level. Definitions only.
+--
+--   Leaf             "root, level, position"
+--   leafAt i         entry i of three columns
+--   leaves           all of them
+--   span n L l       how many smallest cells "a leaf of level l holds": n^(L-l)
+--   begin, past      the first smallest cell of its root that a leaf holds, and the first after them
+--   Place            where a leaf may start: a root, and a smallest cell of it
+--   startOf, endOf   where a leaf starts, and where it ends: "if that is the end of a root, at the start of the next root"
+--   Covers c vs K    the leaves start at c, "each later leaf starts where the one before it ended", "and the last ends root K-1"
+--   Valid K vs       "valid for K roots when the first leaf starts root 0 .."
+--   uniform K l      "Uniform start: K roots, all at one level"
+--
+-- Assumes nothing.
+use mathlib.Core.Path.{_≡_}
+use mathlib.Core.Bool.{cond}
+use mathlib.Core.List.{List, [], _∷_}
+use Prim.Native.Nat.{ℕ, _+_, _-_, _*_, _/_, _%_, _^_, _≤_, _<_}
+use lib.Dec.{eqb}
+use lib.ListN.{length, getD}
+use Rattle.paper.specs.Outcome.{rows}
+
+pub record Leaf : Type 0 where
+  pub root : ℕ
+  pub level : ℕ
+  pub position : ℕ
+
+abbrev pub leaf : ℕ → ℕ → ℕ → Leaf
+leaf r l p = record { root = r; level = l; position = p }
+
+abbrev pub leafAt : List ℕ → List ℕ → List ℕ → ℕ → Leaf
+leafAt roots levels positions i = leaf (getD roots i 0) (getD levels i 0) (getD positions i 0)
+
+abbrev pub leaves : List ℕ → List ℕ → List ℕ → List Leaf
+leaves roots levels positions = rows (leafAt roots levels positions) 0 (length roots)
+
+pub record Place : Type 0 where
+  pub root : ℕ
+  pub cell : ℕ
+
+abbrev pub place : ℕ → ℕ → Place
+place r q = record { root = r; cell = q }
+
+module _ (n L : ℕ) where
+  abbrev pub span : ℕ → ℕ
+  span l = n ^ (L - l)
+
+  abbrev pub begin : Leaf → ℕ
+  begin v = v .position * span (v .level)
+
+  abbrev pub past : Leaf → ℕ
+  past v = (v .position + 1) * span (v .level)
+
+  abbrev pub startOf : Leaf → Place
+  startOf v = place (v .root) (begin v)
+
+  abbrev pub endOf : Leaf → Place
+  endOf v = cond (eqb (past v) (n ^ L)) (place (v .root + 1) 0) (place (v .root) (past v))
+
+  unfoldable pub Covers : Place → List Leaf → ℕ → Type 0
+  Covers c [] K = c ≡ place K 0
+  Covers c (v ∷ vs) K =
+      (v .level ≤ L) × (v .position < n ^ v .level) × (startOf v ≡ c) × (v .root < K) × Covers (endOf v) vs K
+
+  abbrev pub Valid : ℕ → List Leaf → Type 0
+  Valid K vs = Covers (place 0 0) vs K
+
+  abbrev pub uniform : ℕ → ℕ → List Leaf
+  uniform K l = rows (λ i. leaf (i / n ^ l) l (i % n ^ l)) 0 (K * n ^ l)

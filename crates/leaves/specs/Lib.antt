@@ -1,0 +1,4 @@
+pub mod Leaves
+pub mod Calls
+pub mod Laws
+pub mod Readings

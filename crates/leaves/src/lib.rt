@@ -1,0 +1,90 @@
+// Leaf lists over lent columns: root, level, position. Each contract is a call of `specs/Calls.antt` at eight children and highest level 21;
+// the engine behind them takes the bits of a child number and the highest level as ordinary numbers.
+use paper::Fault;
+ghost use mathlib.Core.Path.{_≡_};
+ghost use Prim.Native.Nat.{_*_, _^_, _≤_, _<_};
+ghost use lib.ListN.{length};
+ghost use Rattle.paper.specs.Outcome.{passed};
+ghost use Rattle.paper.specs.Readings.{checksOf};
+ghost use Rattle.leaves.specs.Leaves.{leaf, leaves, place};
+ghost use Rattle.leaves.specs.Calls.{walked, listed};
+ghost use Rattle.leaves.specs.Readings.{listOf, placeOf};
+
+mod step;
+
+// Whether a list is valid, or the refusal's number and place.
+pub enum ListAnswer {
+    Valid,
+    Refused(u8, u64),
+}
+
+// Where a list has come to: a root, and a smallest cell of it.
+pub struct Cursor {
+    pub root: u16,
+    pub cell: u64,
+}
+
+// Whether the columns are a valid list of the roots. Refused: 17, 11, then 1, 5, 12 at each leaf.
+pub fn check_list(k: u16, roots: &[u16], levels: &[u8], positions: &[u64]) -> ListAnswer
+    ensures { λ r. ⌜ listOf r ≡ listed 8 21 k (now (roots .entry)) (now (levels .entry)) (now (positions .entry)) passed ⌝ }
+{
+    if k == 0 {
+        return ListAnswer::Refused(17, 0);
+    }
+    if 4096 < k {
+        return ListAnswer::Refused(17, 0);
+    }
+    if roots.len() != levels.len() {
+        return ListAnswer::Refused(11, 0);
+    }
+    if roots.len() != positions.len() {
+        return ListAnswer::Refused(11, 0);
+    }
+    if roots.len() == 0 {
+        return ListAnswer::Refused(11, 0);
+    }
+    if 1048576 < roots.len() {
+        return ListAnswer::Refused(11, 0);
+    }
+    let fault = walk(3, 21, k, roots, levels, positions);
+    if fault.number != 0 {
+        return ListAnswer::Refused(fault.number, fault.place);
+    }
+    ListAnswer::Valid
+}
+
+// The leaves in turn, each where the one before it ended; then that the last root is full.
+fn walk(bits: u8, highest: u8, k: u16, roots: &[u16], levels: &[u8], positions: &[u64]) -> Fault
+    requires { ⌜ (0 < bits) × ((bits * highest ≤ 63) × ((length (now roots) ≡ length (now levels)) × (length (now roots) ≡ length (now positions)))) ⌝ }
+    ensures { λ r. ⌜ checksOf r ≡ walked (2 ^ bits) highest k 0 (place 0 0) (leaves (now (roots .entry)) (now (levels .entry)) (now (positions .entry))) passed ⌝ }
+{
+    let mut at = Cursor { root: 0, cell: 0 };
+    let mut i = 0;
+    while i < roots.len() {
+        let fault = step::leaf_fault(bits, highest, k, at, roots[i], levels[i], positions[i]);
+        if fault != 0 {
+            return Fault {
+                number: fault,
+                place: i as u64,
+            };
+        }
+        at = step::after(bits, highest, roots[i], levels[i], positions[i]);
+        i += 1;
+    }
+    if at.root != k {
+        return Fault {
+            number: 12,
+            place: i as u64,
+        };
+    }
+    if at.cell != 0 {
+        return Fault {
+            number: 12,
+            place: i as u64,
+        };
+    }
+    Fault {
+        number: 0,
+        place: 0,
+    }
+}
