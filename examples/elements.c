@@ -4,7 +4,7 @@
 
 #include "gwerniloc.h"
 
-static void print_prism(const char *name, gw_prism_answer a)
+static void print_prism(const char *name, gw_prism_result a)
 {
     if (a.refusal != 0) {
         printf("%s: refused %u place %" PRIu64 "\n", name, GW_REFUSAL_NUMBER(a.refusal), GW_REFUSAL_PLACE(a.refusal));
@@ -14,7 +14,7 @@ static void print_prism(const char *name, gw_prism_answer a)
            a.value.x, a.value.y, a.value.z, (unsigned)a.value.kind);
 }
 
-static void print_number(const char *name, gw_number_answer a)
+static void print_number(const char *name, gw_number_result a)
 {
     if (a.refusal != 0)
         printf("%s: refused %u place %" PRIu64 "\n", name, GW_REFUSAL_NUMBER(a.refusal), GW_REFUSAL_PLACE(a.refusal));
@@ -24,8 +24,8 @@ static void print_number(const char *name, gw_number_answer a)
 
 int main(void)
 {
-    gw_prism_answer element = gw_prism_at(1, 6);
-    gw_prism_answer child = gw_prism_child(element.value, 1);
+    gw_prism_result element = gw_prism_at(1, 6);
+    gw_prism_result child = gw_prism_child(element.value, 1);
 
     print_prism("element 6 of level 1", element);
     print_prism("its child 1", child);

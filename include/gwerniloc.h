@@ -4,7 +4,8 @@
  * coordinates are its anchor. Its kind is its type: a triangle of type 0 has the corners (x, y), (x+h, y), (x+h, y+h),
  * one of type 1 has (x, y), (x, y+h), (x+h, y+h). A prism stands on its triangle from z to z+h. A line has no type.
  *
- * Every call takes any values at all and only reads the columns that it is lent. Its answer has refusal 0 and the
+ * Every call takes any values at all and only reads the columns that it is lent. A column's pointer must not be NULL,
+ * also where its length is 0. Its answer has refusal 0 and the
  * value, or a refusal and a value of zeros. A refusal is place * 256 + number. The place is 0, except that compare and
  * family give the index of the element at fault. Each call below names its refusals in the order of the tests; the
  * first that applies is given. The numbers:
@@ -65,158 +66,158 @@ typedef struct gw_prism {
     uint8_t level, kind;
 } gw_prism;
 
-typedef struct gw_line_answer {
+typedef struct gw_line_result {
     uint64_t refusal;
     gw_line value;
-} gw_line_answer;
+} gw_line_result;
 
-typedef struct gw_triangle_answer {
+typedef struct gw_triangle_result {
     uint64_t refusal;
     gw_triangle value;
-} gw_triangle_answer;
+} gw_triangle_result;
 
-typedef struct gw_prism_answer {
+typedef struct gw_prism_result {
     uint64_t refusal;
     gw_prism value;
-} gw_prism_answer;
+} gw_prism_result;
 
-typedef struct gw_number_answer {
+typedef struct gw_number_result {
     uint64_t refusal;
     uint64_t value;
-} gw_number_answer;
+} gw_number_result;
 
 /* The value is -1, 0 or 1: e comes before f, is f, comes after f. */
-typedef struct gw_order_answer {
+typedef struct gw_order_result {
     uint64_t refusal;
     int32_t value;
-} gw_order_answer;
+} gw_order_result;
 
 /* ---- lines */
 
 /** The line at a position of a level.
  *  Refuses: 1 level above 21; 5 position not below 2^level. */
-gw_line_answer gw_line_at(uint8_t level, uint64_t position);
+gw_line_result gw_line_at(uint8_t level, uint64_t position);
 
 /** The position of a line among all of its level, from 0.
  *  Refuses: 1 level, 2 anchor. */
-gw_number_answer gw_line_position(gw_line e);
+gw_number_result gw_line_position(gw_line e);
 
 /** The parent, one level up.
  *  Refuses: 1 level, 2 anchor; 6 level 0. */
-gw_line_answer gw_line_parent(gw_line e);
+gw_line_result gw_line_parent(gw_line e);
 
 /** The child with a number, 0 to 1: 0 is the lower half, 1 the upper.
  *  Refuses: 1 level, 2 anchor; 7 level 21; 8 number above 1. */
-gw_line_answer gw_line_child(gw_line e, uint8_t number);
+gw_line_result gw_line_child(gw_line e, uint8_t number);
 
 /** The line of the same level at the next position.
  *  Refuses: 1 level, 2 anchor; 9 the last of its level. */
-gw_line_answer gw_line_successor(gw_line e);
+gw_line_result gw_line_successor(gw_line e);
 
 /** The first descendant at a level, which may be the line's own.
  *  Refuses: 1 level, 2 anchor; 1 asked level above 21; 6 it is below the line's. */
-gw_line_answer gw_line_first_descendant(gw_line e, uint8_t level);
+gw_line_result gw_line_first_descendant(gw_line e, uint8_t level);
 
 /** The last descendant at a level, which may be the line's own.
  *  Refuses: 1 level, 2 anchor; 1 asked level above 21; 6 it is below the line's. */
-gw_line_answer gw_line_last_descendant(gw_line e, uint8_t level);
+gw_line_result gw_line_last_descendant(gw_line e, uint8_t level);
 
 /** The line of the same level across a face. Face 0 is at x, face 1 at x + h.
  *  Refuses: 1 level, 2 anchor; 8 face above 1; 10 neighbour outside the root. */
-gw_line_answer gw_line_neighbour(gw_line e, uint8_t face);
+gw_line_result gw_line_neighbour(gw_line e, uint8_t face);
 
 /** The order of two: by the positions of their first descendants at level 21, then by level.
  *  Refuses, first e with place 0, then f with place 1: 1 level, 2 anchor. */
-gw_order_answer gw_line_compare(gw_line e, gw_line f);
+gw_order_result gw_line_compare(gw_line e, gw_line f);
 
 /** 1 if the columns hold the 2 children of one parent, in order, else 0. Any other count, or none, is 0.
  *  Refuses: 11 unequal columns; then each in turn, place = its index: 1 level, 2 anchor. */
-gw_number_answer gw_line_family(const uint8_t *level, size_t level_length, const uint32_t *x, size_t x_length);
+gw_number_result gw_line_family(const uint8_t *level, size_t level_length, const uint32_t *x, size_t x_length);
 
 /* ---- triangles */
 
 /** The triangle at a position of a level.
  *  Refuses: 1 level above 21; 5 position not below 4^level. */
-gw_triangle_answer gw_triangle_at(uint8_t level, uint64_t position);
+gw_triangle_result gw_triangle_at(uint8_t level, uint64_t position);
 
 /** The position of a triangle among all of its level, from 0.
  *  Refuses: 1 level, 2 anchor, 3 type, 4 outside. */
-gw_number_answer gw_triangle_position(gw_triangle e);
+gw_number_result gw_triangle_position(gw_triangle e);
 
 /** The parent, one level up.
  *  Refuses: 1 level, 2 anchor, 3 type, 4 outside; 6 level 0. */
-gw_triangle_answer gw_triangle_parent(gw_triangle e);
+gw_triangle_result gw_triangle_parent(gw_triangle e);
 
 /** The child with a number, 0 to 3: numbered along the curve.
  *  Refuses: 1 level, 2 anchor, 3 type, 4 outside; 7 level 21; 8 number above 3. */
-gw_triangle_answer gw_triangle_child(gw_triangle e, uint8_t number);
+gw_triangle_result gw_triangle_child(gw_triangle e, uint8_t number);
 
 /** The triangle of the same level at the next position.
  *  Refuses: 1 level, 2 anchor, 3 type, 4 outside; 9 the last of its level. */
-gw_triangle_answer gw_triangle_successor(gw_triangle e);
+gw_triangle_result gw_triangle_successor(gw_triangle e);
 
 /** The first descendant at a level, which may be the triangle's own.
  *  Refuses: 1 level, 2 anchor, 3 type, 4 outside; 1 asked level above 21; 6 it is below the triangle's. */
-gw_triangle_answer gw_triangle_first_descendant(gw_triangle e, uint8_t level);
+gw_triangle_result gw_triangle_first_descendant(gw_triangle e, uint8_t level);
 
 /** The last descendant at a level, which may be the triangle's own.
  *  Refuses: 1 level, 2 anchor, 3 type, 4 outside; 1 asked level above 21; 6 it is below the triangle's. */
-gw_triangle_answer gw_triangle_last_descendant(gw_triangle e, uint8_t level);
+gw_triangle_result gw_triangle_last_descendant(gw_triangle e, uint8_t level);
 
 /** The triangle of the same level across a face. Face i is opposite corner i.
  *  Refuses: 1 level, 2 anchor, 3 type, 4 outside; 8 face above 2; 10 neighbour outside the root. */
-gw_triangle_answer gw_triangle_neighbour(gw_triangle e, uint8_t face);
+gw_triangle_result gw_triangle_neighbour(gw_triangle e, uint8_t face);
 
 /** The order of two: by the positions of their first descendants at level 21, then by level.
  *  Refuses, first e with place 0, then f with place 1: 1 level, 2 anchor, 3 type, 4 outside. */
-gw_order_answer gw_triangle_compare(gw_triangle e, gw_triangle f);
+gw_order_result gw_triangle_compare(gw_triangle e, gw_triangle f);
 
 /** 1 if the columns hold the 4 children of one parent, in order, else 0. Any other count, or none, is 0.
  *  Refuses: 11 unequal columns; then each in turn, place = its index: 1 level, 2 anchor, 3 type, 4 outside. */
-gw_number_answer gw_triangle_family(const uint8_t *level, size_t level_length, const uint32_t *x, size_t x_length,
+gw_number_result gw_triangle_family(const uint8_t *level, size_t level_length, const uint32_t *x, size_t x_length,
                                     const uint32_t *y, size_t y_length, const uint8_t *kind, size_t kind_length);
 
 /* ---- prisms */
 
 /** The prism at a position of a level.
  *  Refuses: 1 level above 21; 5 position not below 8^level. */
-gw_prism_answer gw_prism_at(uint8_t level, uint64_t position);
+gw_prism_result gw_prism_at(uint8_t level, uint64_t position);
 
 /** The position of a prism among all of its level, from 0.
  *  Refuses: 1 level, 2 anchor, 3 type, 4 outside. */
-gw_number_answer gw_prism_position(gw_prism e);
+gw_number_result gw_prism_position(gw_prism e);
 
 /** The parent, one level up.
  *  Refuses: 1 level, 2 anchor, 3 type, 4 outside; 6 level 0. */
-gw_prism_answer gw_prism_parent(gw_prism e);
+gw_prism_result gw_prism_parent(gw_prism e);
 
 /** The child with a number, 0 to 7: 4 times the line's number plus the triangle's.
  *  Refuses: 1 level, 2 anchor, 3 type, 4 outside; 7 level 21; 8 number above 7. */
-gw_prism_answer gw_prism_child(gw_prism e, uint8_t number);
+gw_prism_result gw_prism_child(gw_prism e, uint8_t number);
 
 /** The prism of the same level at the next position.
  *  Refuses: 1 level, 2 anchor, 3 type, 4 outside; 9 the last of its level. */
-gw_prism_answer gw_prism_successor(gw_prism e);
+gw_prism_result gw_prism_successor(gw_prism e);
 
 /** The first descendant at a level, which may be the prism's own.
  *  Refuses: 1 level, 2 anchor, 3 type, 4 outside; 1 asked level above 21; 6 it is below the prism's. */
-gw_prism_answer gw_prism_first_descendant(gw_prism e, uint8_t level);
+gw_prism_result gw_prism_first_descendant(gw_prism e, uint8_t level);
 
 /** The last descendant at a level, which may be the prism's own.
  *  Refuses: 1 level, 2 anchor, 3 type, 4 outside; 1 asked level above 21; 6 it is below the prism's. */
-gw_prism_answer gw_prism_last_descendant(gw_prism e, uint8_t level);
+gw_prism_result gw_prism_last_descendant(gw_prism e, uint8_t level);
 
 /** The prism of the same level across a face. Faces 0 to 2 are the triangle's, 3 is at z, 4 at z + h.
  *  Refuses: 1 level, 2 anchor, 3 type, 4 outside; 8 face above 4; 10 neighbour outside the root. */
-gw_prism_answer gw_prism_neighbour(gw_prism e, uint8_t face);
+gw_prism_result gw_prism_neighbour(gw_prism e, uint8_t face);
 
 /** The order of two: by the positions of their first descendants at level 21, then by level.
  *  Refuses, first e with place 0, then f with place 1: 1 level, 2 anchor, 3 type, 4 outside. */
-gw_order_answer gw_prism_compare(gw_prism e, gw_prism f);
+gw_order_result gw_prism_compare(gw_prism e, gw_prism f);
 
 /** 1 if the columns hold the 8 children of one parent, in order, else 0. Any other count, or none, is 0.
  *  Refuses: 11 unequal columns; then each in turn, place = its index: 1 level, 2 anchor, 3 type, 4 outside. */
-gw_number_answer gw_prism_family(const uint8_t *level, size_t level_length, const uint32_t *x, size_t x_length,
+gw_number_result gw_prism_family(const uint8_t *level, size_t level_length, const uint32_t *x, size_t x_length,
                                  const uint32_t *y, size_t y_length, const uint32_t *z, size_t z_length,
                                  const uint8_t *kind, size_t kind_length);
 

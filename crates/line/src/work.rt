@@ -6,6 +6,9 @@ ghost use Prim.Native.Nat.{_^_, _≤_, _<_};
 ghost use Rattle.tree.specs.Words;
 ghost use Rattle.line.specs.Elements.{line, elementOf};
 
+// No check fails.
+const SOUND: u8 = 0;
+
 impl Line {
     // The number of the first check that the element fails, or 0.
     pub(crate) fn fault(self) -> u8
@@ -17,7 +20,7 @@ impl Line {
         if tree::off_grid(self.level, self.x) {
             return 2;
         }
-        0
+        SOUND
     }
 
     pub(crate) fn equals(self, other: Line) -> bool

@@ -12,6 +12,9 @@ ghost use Prim.Native.Nat.{_^_, _≤_, _<_};
 ghost use Rattle.tree.specs.Words;
 ghost use Rattle.prism.specs.Elements.{prism, elementOf, triangleOf, lineOf, joined};
 
+// No check fails.
+const SOUND: u8 = 0;
+
 impl Prism {
     // The number of the first check that the element fails, or 0.
     pub(crate) fn fault(self) -> u8
@@ -35,7 +38,7 @@ impl Prism {
         if triangle::outside(self.kind, self.x, self.y) {
             return 4;
         }
-        0
+        SOUND
     }
 
     pub(crate) fn equals(self, other: Prism) -> bool

@@ -8,6 +8,9 @@ ghost use Prim.Native.Nat.{_^_, _≤_, _<_};
 ghost use Rattle.tree.specs.Words;
 ghost use Rattle.triangle.specs.Elements.{triangle, elementOf};
 
+// No check fails.
+const SOUND: u8 = 0;
+
 impl Triangle {
     // The number of the first check that the element fails, or 0.
     pub(crate) fn fault(self) -> u8
@@ -28,7 +31,7 @@ impl Triangle {
         if outside(self.kind, self.x, self.y) {
             return 4;
         }
-        0
+        SOUND
     }
 
     pub(crate) fn equals(self, other: Triangle) -> bool
