@@ -1,4 +1,4 @@
--- Closed cases of the index, computed: they hold what `Ranked` offEdge open, that Y stands before X and X before the types. Assumes nothing.
+-- Closed cases of the index, computed: they hold what `Ranked` leaves open, that Y stands before X and X before the types. Assumes nothing.
 use mathlib.Core.Path.{_≡_, refl}
 use Prim.Native.Nat.{_+_, _*_, _^_}
 use Rattle.triangle.specs.Rows.{parentKind}

@@ -1,11 +1,12 @@
 -- Where an index rises with the position, the elements before e are those at the positions below that of e: two lists that hold the
 -- same elements, each once, are equally long. Assumes nothing.
-use mathlib.Core.Path.{_≡_, refl, ap, ap₂, _∙_, sym}
+use mathlib.Core.Path.{_≡_, refl, ap, ap₂, _∙_, sym, subst⁻¹}
 use mathlib.Core.Logic.{_↔_, ⊎-elim, ∥∥₁-elim}
 use mathlib.Core.HLevel.{⊥-prop}
-use mathlib.Core.List.{List, [], _∷_, List·Mem, List·Mem-prop, List·Memᴰ, List·Memᴰ·head, List·Memᴰ·tail, List·Memᴰ·not-nil, List·Memᴰ·cases-cons, List·Nodup, nodup-nil, nodup-cons, Memᴰ·cast, mem-cast, List·Permᴰ, List·Permᴰ·nil, List·Permᴰ·cons, List·Permᴰ·swap, List·Permᴰ·trans, perm-ext-iff-of-nodup}
+use mathlib.Core.List.{List, [], _∷_, List·Mem, List·Memᴰ, List·Memᴰ·head, List·Memᴰ·tail, List·Memᴰ·not-nil, List·Memᴰ·cases-cons, List·Nodup, nodup-nil, nodup-cons, Memᴰ·cast, List·Permᴰ, List·Permᴰ·nil, List·Permᴰ·cons, List·Permᴰ·swap, List·Permᴰ·trans, perm-ext-iff-of-nodup}
 use Prim.Native.Nat.{ℕ, zero, suc, _^_, _≤_, _<_}
 use native.Mathlib.Nat.{ℕ-set}
+use native.Mathlib.Bridge.{le-prop}
 use native.Mathlib.Decide.{decLt}
 use native.Mathlib.Omega.{arith}
 use lib.ListN.{length}
@@ -80,6 +81,15 @@ module _ {E : Type 0} (S : Shape E) where
 
     -- ---- an index that rises with the position
     module _ (index : E → ℕ) (rises : Rises index) where
+      -- to stand before is a proposition
+      before-prop : (f e : E) (b c : Before S index f e) → b ≡ c
+      before-prop f e b c = λ i.
+          record {
+            sound = ℕ-set _ _ (b .sound) (c .sound) i;
+            level = ℕ-set _ _ (b .level) (c .level) i;
+            smaller = le-prop (b .smaller) (c .smaller) i;
+          }
+
       position-smaller : (e f : E) → Sound S e → Before S index f e → position S f < position S e
       position-smaller e f ok before = decide (decLt (position S f) (position S e)) (decLt (position S e) (position S f))
         where
@@ -102,31 +112,36 @@ module _ {E : Type 0} (S : Shape E) where
             smaller = rises (at S l p) e fine ok (at-level S W l p) (rw (position-at S W l p shallow inside) below);
           }
 
-      -- a list that holds exactly the elements before e holds those at the positions below that of e
-      earlier-exactly : (e : E) → Sound S e → (fs : List E) → ((f : E) → List·Mem f fs ↔ Before S index f e)
-          → (f : E) → List·Mem f fs ↔ List·Mem f (earlier (S .level e) (position S e))
-      earlier-exactly e ok fs exactly f = (there, back)
+      -- the elements at the positions below that of e are exactly those before e
+      earlier-exactly : (e : E) → Sound S e → (f : E) → List·Mem f (earlier (S .level e) (position S e)) ↔ Before S index f e
+      earlier-exactly e ok f = (there, back)
         where
-          there : List·Mem f fs → List·Mem f (earlier (S .level e) (position S e))
+          there : List·Mem f (earlier (S .level e) (position S e)) → Before S index f e
           there m =
-              let before = exactly f .0 m in
+              ∥∥₁-elim m (before-prop f e) λ d.
+              let r = earlier-only (S .level e) (position S e) f d in
+              subst⁻¹ (λ (g : E). Before S index g e) (r .1 .1) (earlier-before e ok (r .0) (r .1 .0))
+
+          back : Before S index f e → List·Mem f (earlier (S .level e) (position S e))
+          back before =
               let here : f ≡ at S (S .level e) (position S f) =
               sym (at-position S W f (before .sound)) ∙ ap (λ (l : ℕ). at S l (position S f)) (before .level) in
               ∣ Memᴰ·cast here (earlier-all (S .level e) (position S e) (position S f) (position-smaller e f ok before)) ∣₁
 
-          back : List·Mem f (earlier (S .level e) (position S e)) → List·Mem f fs
-          back m =
-              ∥∥₁-elim m (List·Mem-prop {a = f} {l = fs}) λ d.
-              let r = earlier-only (S .level e) (position S e) f d in
-              mem-cast (r .1 .1) (exactly (at S (S .level e) (r .0)) .1 (earlier-before e ok (r .0) (r .1 .0)))
+      listed : (e : E) → Sound S e → (fs : List E) × (List·Nodup fs × ((f : E) → List·Mem f fs ↔ Before S index f e))
+      listed e ok = (
+        earlier (S .level e) (position S e),
+        (earlier-once (S .level e) (position S e) (W .shallow e ok) (omega (arith, position-lt S W e ok)), earlier-exactly e ok),
+      )
 
       counts : (e : E) → Sound S e → (fs : List E) → List·Nodup fs → ((f : E) → List·Mem f fs ↔ Before S index f e)
           → length fs ≡ position S e
+      unfolding listed
       counts e ok fs once exactly =
-          length-same fs (earlier (S .level e) (position S e)) once
-          (earlier-once (S .level e) (position S e) (W .shallow e ok) (omega (arith, position-lt S W e ok)))
-          (earlier-exactly e ok fs exactly)
+          let those = listed e ok in
+          length-same fs (those .0) once (those .1 .0)
+          (λ f. (λ m. those .1 .1 f .1 (exactly f .0 m), λ m. exactly f .1 (those .1 .1 f .0 m)))
           ∙ earlier-length (S .level e) (position S e)
 
       pub ranked-of-rises : Ranked S index
-      ranked-of-rises = record { rises = rises; counts = counts }
+      ranked-of-rises = record { rises = rises; listed = listed; counts = counts }

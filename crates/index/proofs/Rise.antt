@@ -31,7 +31,7 @@ digit-cases n p q i j small less = decide (decLt p q) (decLt q p)
     decide (no after) (yes above) = let whole : n * suc q ≤ n * p = mul-le-mul-left n above in absurd (omega arith)
     decide (no after) (no before) = let same : p ≡ q = omega arith in inr (same, omega (arith, ap (λ (k : ℕ). n * k) same))
 
--- what a step adds stays below the place above, and offEdge the numbers one place apart
+-- what a step adds stays below the place above, and leaves the numbers one place apart
 apart-above : (b B a c m k : ℕ) → m < b → a + b * B ≤ c → a + m * B + B ≤ c + k * B
 apart-above b B a c m k small apart = let whole : suc m * B ≤ b * B = mul-le-mul-right B small in omega arith
 

@@ -1,7 +1,8 @@
 -- "By demand 2 it equals the rank in the order of definition 22". Definitions only.
 --
 --   Ranked S index       among the sound elements of one level the index rises with the position, and an element's position is the
---                        number of those with a smaller index: the length of any list that holds exactly those, each once
+--                        number of those with a smaller index: there is a list that holds exactly those, each once, and any such list
+--                        has that length
 --
 -- Assumes nothing.
 use mathlib.Core.Path.{_≡_}
@@ -22,4 +23,5 @@ module _ {E : Type 0} (S : Shape E) (index : E → ℕ) where
 
   pub record Ranked : Type 0 where
     pub rises : (e f : E) → Sound S e → Sound S f → S .level e ≡ S .level f → position S e < position S f → index e < index f
+    pub listed : (e : E) → Sound S e → (fs : List E) × (List·Nodup fs × ((f : E) → List·Mem f fs ↔ Before f e))
     pub counts : (e : E) → Sound S e → (fs : List E) → List·Nodup fs → ((f : E) → List·Mem f fs ↔ Before f e) → length fs ≡ position S e

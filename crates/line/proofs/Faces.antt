@@ -1,21 +1,21 @@
 -- A line's face is one point, and the move across it is one coordinate's (`tree`'s): the end that the two share is where the one begins and
 -- the other ends. Assumes nothing.
-use mathlib.Core.Path.{_≡_, refl, ap, ap₂, _∙_, sym}
-use mathlib.Core.Bool.{Bool, false}
+use mathlib.Core.Path.{_≡_, refl, ap, _∙_, sym, subst⁻¹}
+use mathlib.Core.Bool.{false}
 use mathlib.Core.List.{List, [], _∷_}
 use Prim.Native.Nat.{ℕ, _+_, _-_, _*_, _<_}
 use native.Mathlib.Omega.{arith}
 use lib.ListN.{getD}
-use Rattle.paper.specs.Outcome.{accepted, refuse-when}
+use Rattle.paper.specs.Outcome.{accepted}
 use Rattle.tree.specs.Anchors.{side, moved, offEdge}
 use Rattle.tree.proofs.Anchor.{side-pos, grid-lt}
 use Rattle.tree.proofs.Cases.{below-2}
 use Rattle.tree.specs.Laws.{Across, Faces}
-use Rattle.tree.proofs.Faces.{either-way, when-accepted, when-refused, move-far, move-reached, move-back, move-grid}
+use Rattle.tree.proofs.Faces.{either-way, when-accepted, when-led, move-far, move-reached, move-back, move-grid}
 use Rattle.line.specs.declared.Line.{Line}
 use Rattle.line.specs.Elements.{lineTo, fault, neighbour}
 use Rattle.line.specs.Points.{corner, facePoints, faceAcross}
-use Rattle.line.proofs.Laws.{sound-level, sound-grid, grid-sound}
+use Rattle.line.proofs.Laws.{line-path, sound-level, sound-grid, grid-sound}
 
 -- ---- the lines from x and from y, of length h, meet in face i of the first
 module _ (x y h : ℕ) where
@@ -26,10 +26,17 @@ module _ (x y h : ℕ) where
   meets = below-2 (λ (i : ℕ). x + i * h ≡ y + (1 - i) * h → y + h ≡ x + 2 * i * h) (λ shared. omega arith) (λ shared. omega arith)
 
 -- its own two faces are not one
-pub ends-differ : (L : ℕ) (e : Line) (i : ℕ) → i < 2 → corner L e i ≡ corner L e (faceAcross i) → ⊥
+ends-differ : (L : ℕ) (e : Line) (i : ℕ) → i < 2 → corner L e i ≡ corner L e (faceAcross i) → ⊥
 ends-differ L e =
     let positive = side-pos L (e .level) in
     below-2 (λ (i : ℕ). corner L e i ≡ corner L e (faceAcross i) → ⊥) (λ same. omega arith) (λ same. omega arith)
+
+-- a move by s sides stays and leads from e to f
+abbrev Led : ℕ → Line → Line → ℕ → Type 0
+Led L e f s = (offEdge L (side L (e .level)) s (e .x) ≡ false) × (moved (side L (e .level)) s (e .x) ≡ f .x)
+
+leads : (L : ℕ) (e f : Line) (i : ℕ) → e .level ≡ f .level → Led L e f (2 * i) → neighbour L e i ≡ accepted f
+leads L e f i level led = when-led (led .0) (line-path _ f (led .1) level)
 
 module _ (L : ℕ) (e : Line) (i : ℕ) (sound : fault L e ≡ 0) (small : i < 2) where
   abbrev h : ℕ
@@ -58,17 +65,17 @@ module _ (L : ℕ) (e : Line) (i : ℕ) (sound : fault L e ≡ 0) (small : i < 2
     back-there =
         let turned : 2 * (1 - i) ≡ 2 - 2 * i = omega arith in
         let back = move-back L h (2 * i) (e .x) (omega arith) (grid-lt L (e .level) (e .x) (sound-grid L (e .level) (e .x) sound)) stays in
-        ap₂ (λ (t : Bool) (k : ℕ). refuse-when t 10 (accepted (record { x = k; level = e .level })))
-        (ap (λ (s : ℕ). offEdge L h s (there .x)) turned ∙ back .0)
-        (ap (λ (s : ℕ). moved h s (there .x)) turned ∙ back .1)
+        leads L there e (1 - i) refl (subst⁻¹ (Led L there e) turned back)
 
-  reached : (f : Line) → Across (lineTo L) (facePoints L) faceAcross e f i → offEdge L h (2 * i) (e .x) ≡ false
+  reached : (f : Line) → Across (lineTo L) (facePoints L) faceAcross e f i → neighbour L e i ≡ accepted f
   unfolding lineTo
   reached f a =
       let sized : side L (f .level) ≡ h = ap (side L) (a .level) in
       let shared : e .x + i * h ≡ f .x + (1 - i) * h =
       ap (λ (l : List ℕ). getD l 0 0) (a .shared) ∙ ap (λ (k : ℕ). f .x + (1 - i) * k) sized in
-      move-reached L h (2 * i) (e .x) (f .x) (meets (e .x) (f .x) h i small shared) (grid-lt L (f .level) (f .x) (sound-grid L (f .level) (f .x) (a .sound))) .0
+      leads L e f i (sym (a .level))
+      (move-reached L h (2 * i) (e .x) (f .x) (meets (e .x) (f .x) h i small shared)
+      (grid-lt L (f .level) (f .x) (sound-grid L (f .level) (f .x) (a .sound))))
 
 pub line-faces : (L : ℕ) → Faces (lineTo L) (facePoints L) faceAcross
 unfolding lineTo
@@ -81,6 +88,5 @@ line-faces L =
       back = λ e f i sound small.
           when-accepted (λ (g : Line). neighbour L g (faceAcross i) ≡ accepted e) (offEdge L (side L (e .level)) (2 * i) (e .x)) _ f
           (back-there L e i sound small);
-      alone = λ e f i sound small answer a.
-          when-refused (offEdge L (side L (e .level)) (2 * i) (e .x)) _ answer (reached L e i sound small f a);
+      only = λ e f i sound small. reached L e i sound small f;
     }

@@ -2,7 +2,7 @@
 --
 --   corner L e i       corner 0 is x, corner 1 is x + h
 --   facePoints L e i   the corner points of face i: face 0, towards x-h, is corner 0, and face 1, towards x+h, is corner 1
---   faceAcross i         the number of that face as the neighbour has it
+--   faceAcross i       the number of that face as the neighbour has it
 --
 -- Assumes nothing.
 use mathlib.Core.List.{List, [], _∷_}

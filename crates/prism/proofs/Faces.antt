@@ -12,15 +12,15 @@ use lib.ListN.{getD}
 use Rattle.paper.specs.Outcome.{Outcome, accepted, refused, mapped}
 use Rattle.tree.proofs.Cases.{below-2, below-3, below-5}
 use Rattle.tree.specs.Laws.{Across, Faces}
-use Rattle.tree.proofs.Faces.{mapped-either, mapped-accepted, mapped-refused}
+use Rattle.tree.proofs.Faces.{mapped-either, mapped-accepted, mapped-led}
 use Rattle.line.specs.declared.Line.{Line}
 use Rattle.line.specs.Elements.{lineTo}
 use Rattle.line.proofs.Laws.{line-path}
-use Rattle.line.proofs.Faces.{line-faces, ends-differ}
+use Rattle.line.proofs.Faces.{line-faces}
 use Rattle.triangle.specs.declared.Triangle.{Triangle}
 use Rattle.triangle.specs.Elements.{triangleTo}
 use Rattle.triangle.specs.Points.{Point, point}
-use Rattle.triangle.proofs.Faces.{triangle-faces}
+use Rattle.triangle.proofs.Faces.{triangle-faces, triangle-told}
 use Rattle.line.specs.Elements as line
 use Rattle.line.specs.Points as line-points
 use Rattle.triangle.specs.Elements as triangle
@@ -28,7 +28,7 @@ use Rattle.triangle.specs.Points as triangle-points
 use Rattle.prism.specs.declared.Prism.{Prism}
 use Rattle.prism.specs.Elements.{prismTo, fault, neighbour, triangleOf, lineOf, joined}
 use Rattle.prism.specs.Points.{Corner, lifted, facePoints, faceAcross}
-use Rattle.prism.proofs.Laws.{triangle-sound, line-sound, joined-sound}
+use Rattle.prism.proofs.Laws.{grids, triangle-sound, line-sound, joined-sound}
 
 -- ---- the corner points
 -- points of the ground plan at both ends of a line
@@ -108,22 +108,36 @@ module _ (L : ℕ) where
           ∙ neighbour-around (joined t (lineOf e)) (2 - i) (omega arith)
           ∙ ap₂ (λ (m : Line) (o : Outcome Triangle). mapped (λ (s : Triangle). joined s m) o) line-kept back
 
-    -- whoever lies across, its triangle does
-    around-from : (f : Prism) → Across (prismTo L) (facePoints L) faceAcross e f i
-        → Across (triangleTo L) (triangle-points.facePoints L) triangle-points.faceAcross (triangleOf e) (triangleOf f) i
-    unfolding prismTo triangleTo
-    around-from f a =
-        let shared : walls L (lineOf e) (triangle-points.facePoints L (triangleOf e) i) ≡ walls L (lineOf f) (triangle-points.facePoints L (triangleOf f) (2 - i)) =
-        sym (around-points e i small) ∙ a .shared ∙ around-shared f i small in
-        let heights : line-points.corner L (lineOf e) 0 ≡ line-points.corner L (lineOf f) 0 =
-        sym (height-back L (lineOf e) (triangleOf e) i) ∙ ap height shared ∙ height-back L (lineOf f) (triangleOf f) (2 - i) in
-        let in-z : e .z ≡ f .z = omega arith in
-        record {
-          sound = triangle-sound L f (a .sound);
-          level = a .level;
-          shared = sym (plans-back L (lineOf e) (triangleOf e) i) ∙ ap plans shared ∙ plans-back L (lineOf f) (triangleOf f) (2 - i);
-          other = λ same. a .other (ap₂ joined same (line-path (lineOf e) (lineOf f) in-z (sym (a .level))));
-        }
+    -- whoever lies across has the same line, and its triangle lies across
+    module _ (f : Prism) (a : Across (prismTo L) (facePoints L) faceAcross e f i) where
+      walls-shared : walls L (lineOf e) (triangle-points.facePoints L (triangleOf e) i)
+          ≡ walls L (lineOf f) (triangle-points.facePoints L (triangleOf f) (2 - i))
+      walls-shared = sym (around-points e i small) ∙ a .shared ∙ around-shared f i small
+
+      around-line : lineOf e ≡ lineOf f
+      unfolding prismTo
+      around-line =
+          let heights : line-points.corner L (lineOf e) 0 ≡ line-points.corner L (lineOf f) 0 =
+          sym (height-back L (lineOf e) (triangleOf e) i) ∙ ap height walls-shared ∙ height-back L (lineOf f) (triangleOf f) (2 - i) in
+          line-path (lineOf e) (lineOf f) (omega arith) (sym (a .level))
+
+      around-from : Across (triangleTo L) (triangle-points.facePoints L) triangle-points.faceAcross (triangleOf e) (triangleOf f) i
+      unfolding prismTo triangleTo
+      around-from =
+          record {
+            sound = triangle-sound L f (a .sound);
+            level = a .level;
+            shared = sym (plans-back L (lineOf e) (triangleOf e) i) ∙ ap plans walls-shared ∙ plans-back L (lineOf f) (triangleOf f) (2 - i);
+            other = λ same. a .other (ap₂ joined same around-line);
+          }
+
+      around-only : neighbour L e i ≡ accepted f
+      unfolding triangleTo
+      around-only =
+          neighbour-around e i small
+          ∙ mapped-led (λ (t : Triangle). joined t (lineOf e)) (triangle.neighbour L (triangleOf e) i) (triangleOf f) f
+          (T .only (triangleOf e) (triangleOf f) i (triangle-sound L e sound) small around-from)
+          (ap (joined (triangleOf f)) around-line)
 
   -- ---- faces 3 and 4: the triangle is kept
   abbrev along : Prism → ℕ → Outcome Prism
@@ -168,18 +182,33 @@ module _ (L : ℕ) where
           ∙ ap (λ (n : Line). mapped (λ (o : Line). joined (triangleOf e) o) (line.neighbour L n (1 - i))) line-there
           ∙ ap (mapped (λ (o : Line). joined (triangleOf e) o)) back
 
-    along-from : (f : Prism) → Across (prismTo L) (facePoints L) faceAcross e f (3 + i)
-        → Across (lineTo L) (line-points.facePoints L) line-points.faceAcross (lineOf e) (lineOf f) i
-    unfolding prismTo lineTo
-    along-from f a =
-        let heights : line-points.corner L (lineOf e) i ≡ line-points.corner L (lineOf f) (1 - i) =
-        ap height (sym (along-points e i small) ∙ a .shared ∙ along-shared f i small) in
-        record {
-          sound = line-sound L f (a .sound);
-          level = a .level;
-          shared = ap (λ (z : ℕ). z ∷ []) heights;
-          other = λ same. ends-differ L (lineOf e) i small (heights ∙ ap (λ (n : Line). line-points.corner L n (1 - i)) (sym same));
-        }
+    -- whoever lies across has the same triangle, and its line lies across
+    module _ (f : Prism) (a : Across (prismTo L) (facePoints L) faceAcross e f (3 + i)) where
+      cap-shared : cap L (triangleOf e) (line-points.corner L (lineOf e) i) ≡ cap L (triangleOf f) (line-points.corner L (lineOf f) (1 - i))
+      cap-shared = sym (along-points e i small) ∙ a .shared ∙ along-shared f i small
+
+      along-triangle : triangleOf e ≡ triangleOf f
+      unfolding prismTo
+      along-triangle =
+          triangle-told L (triangleOf e) (triangleOf f) (grids L e sound .0) (grids L f (a .sound) .0) (sym (a .level)) (ap plans cap-shared)
+
+      along-from : Across (lineTo L) (line-points.facePoints L) line-points.faceAcross (lineOf e) (lineOf f) i
+      unfolding prismTo lineTo
+      along-from =
+          record {
+            sound = line-sound L f (a .sound);
+            level = a .level;
+            shared = ap (λ (cs : List Corner). height cs ∷ []) cap-shared;
+            other = λ same. a .other (ap₂ joined along-triangle same);
+          }
+
+      along-only : neighbour L e (3 + i) ≡ accepted f
+      unfolding lineTo
+      along-only =
+          neighbour-along e i small
+          ∙ mapped-led (joined (triangleOf e)) (line.neighbour L (lineOf e) i) (lineOf f) f
+          (M .only (lineOf e) (lineOf f) i (line-sound L e sound) small along-from)
+          (ap (λ (t : Triangle). joined t (lineOf f)) along-triangle)
 
   -- ---- both
   -- a statement about the five faces, from its two parts
@@ -230,18 +259,11 @@ module _ (L : ℕ) where
         (λ i small t a turned. around-back e i sound small t a turned)
         (λ i small m a turned. along-back e i sound small m a turned)
 
-    alone : (f : Prism) (i : ℕ) → i < 5 → neighbour L e i ≡ refused 10 0 → Across (prismTo L) (facePoints L) faceAcross e f i → ⊥
-    unfolding triangleTo lineTo
-    alone f =
-        each (λ (i : ℕ). neighbour L e i ≡ refused 10 0 → Across (prismTo L) (facePoints L) faceAcross e f i → ⊥)
-        (λ i small answer a.
-        T .alone (triangleOf e) (triangleOf f) i (triangle-sound L e sound) small
-        (mapped-refused _ (triangle.neighbour L (triangleOf e) i) (sym (neighbour-around e i small) ∙ answer))
-        (around-from e i sound small f a))
-        (λ i small answer a.
-        M .alone (lineOf e) (lineOf f) i (line-sound L e sound) small
-        (mapped-refused _ (line.neighbour L (lineOf e) i) (sym (neighbour-along e i small) ∙ answer))
-        (along-from e i sound small f a))
+    only : (f : Prism) (i : ℕ) → i < 5 → Across (prismTo L) (facePoints L) faceAcross e f i → neighbour L e i ≡ accepted f
+    only f =
+        each (λ (i : ℕ). Across (prismTo L) (facePoints L) faceAcross e f i → neighbour L e i ≡ accepted f)
+        (λ i small. around-only e i sound small f)
+        (λ i small. along-only e i sound small f)
 
 pub prism-faces : (L : ℕ) → Faces (prismTo L) (facePoints L) faceAcross
 unfolding prismTo
@@ -250,5 +272,5 @@ prism-faces L =
       either = either L;
       across = λ e f i sound. across L e sound f i;
       back = λ e f i sound. back L e sound f i;
-      alone = λ e f i sound. alone L e sound f i;
+      only = λ e f i sound. only L e sound f i;
     }

@@ -3,3 +3,4 @@ pub mod Parts
 pub mod Loops
 pub mod Across
 pub mod Faces
+pub mod Definition27

@@ -4,13 +4,17 @@
 --   corner L e i       "corners 0 to 2 at z, 3 to 5 at z+h"
 --   facePoints L e i   the corner points of face i (the thesis's definition 27): of a side, those of the triangle's face at both
 --                      heights; below and above, the whole triangle
---   faceAcross i         the number of that face as the neighbour has it
+--   faceCorners i      the corners of face i by number, as the thesis's definition 27 lists them
+--   Definition27 L     the points of a face are those corners
+--   faceAcross i       the number of that face as the neighbour has it
 --
 -- Assumes nothing.
+use mathlib.Core.Path.{_≡_}
 use mathlib.Core.Bool.{cond}
 use mathlib.Core.List.{List, [], _∷_, _++_, map}
-use Prim.Native.Nat.{ℕ, _+_, _-_, _%_, _/_}
+use Prim.Native.Nat.{ℕ, _+_, _-_, _%_, _/_, _<_}
 use lib.Dec.{ltb}
+use lib.ListN.{getD}
 use Rattle.triangle.specs.Points.{Point}
 use Rattle.line.specs.Points as line
 use Rattle.triangle.specs.Points as triangle
@@ -37,3 +41,17 @@ facePoints L e i =
 
 abbrev pub faceAcross : ℕ → ℕ
 faceAcross i = cond (ltb i 3) (triangle.faceAcross i) (3 + line.faceAcross (i - 3))
+
+abbrev pub faceCorners : ℕ → List ℕ
+faceCorners i =
+    getD
+    ((1 ∷ 2 ∷ 4 ∷ 5 ∷ [])
+    ∷ (0 ∷ 2 ∷ 3 ∷ 5 ∷ [])
+    ∷ (0 ∷ 1 ∷ 3 ∷ 4 ∷ [])
+    ∷ (0 ∷ 1 ∷ 2 ∷ [])
+    ∷ (3 ∷ 4 ∷ 5 ∷ [])
+    ∷ [])
+    i []
+
+abbrev pub Definition27 : ℕ → Type 0
+Definition27 L = (e : Prism) (i : ℕ) → i < 5 → facePoints L e i ≡ map (corner L e) (faceCorners i)

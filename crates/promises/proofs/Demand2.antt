@@ -16,6 +16,7 @@ use Rattle.line.proofs.Faces.{line-faces}
 use Rattle.triangle.proofs.Faces.{triangle-faces}
 use Rattle.triangle.proofs.Bey.{bey}
 use Rattle.prism.proofs.Faces.{prism-faces}
+use Rattle.prism.proofs.Definition27.{definition-27}
 use Rattle.index.specs.Index.{lineIndex, triangleIndex, prismIndex}
 use Rattle.index.specs.Rank.{Ranked}
 use Rattle.index.proofs.Rank.{line-ranked, triangle-ranked, prism-ranked}
@@ -121,5 +122,6 @@ of-elements =
       of-triangles = elements triangle (triangleIndex 21) (triangle-points.facePoints 21) triangle-points.faceAcross (triangle-laws.lawful 21) (triangle-ranked 21) (triangle-faces 21);
       of-prisms = elements prism (prismIndex 21) (prism-points.facePoints 21) prism-points.faceAcross (prism-laws.lawful 21) (prism-ranked 21) (prism-faces 21);
       children-are-bey's = bey 21;
+      faces-by-definition-27 = definition-27 21;
       determined = record { line-elements = line-elements; triangle-elements = triangle-elements; prism-elements = prism-elements; positions = position-answers; families = family-answers; orders = order-answers };
     }

@@ -47,4 +47,5 @@ pub record OfElements : Type 0 where
   pub of-triangles : Elements triangles.triangle (triangleIndex 21) (triangle-points.facePoints 21) triangle-points.faceAcross
   pub of-prisms : Elements prisms.prism (prismIndex 21) (prism-points.facePoints 21) prism-points.faceAcross
   pub children-are-bey's : Bey 21
+  pub faces-by-definition-27 : prism-points.Definition27 21
   pub determined : Answers

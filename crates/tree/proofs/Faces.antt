@@ -1,8 +1,8 @@
 -- One coordinate across a face: counted in sides, a move adds s and takes 1 away, so it stays on the grid, a move by 2 - s undoes it, and
 -- whoever lies s - 1 sides away within the edge is where it leads. Assumes nothing.
-use mathlib.Core.Path.{_≡_, refl, ap, _∙_, sym, subst}
+use mathlib.Core.Path.{_≡_, refl, ap, ap₂, _∙_, sym, subst}
 use mathlib.Core.Logic.{_⊎_, inl, inr}
-use mathlib.Core.Bool.{Bool, true, false, true≢false}
+use mathlib.Core.Bool.{Bool, true, false}
 use Prim.Native.Nat.{ℕ, _+_, _-_, _*_, _/_, _%_, _^_, _<_}
 use native.Mathlib.Nat.{add-mod-right, mul-mod-left}
 use native.Mathlib.Omega.{arith}
@@ -25,9 +25,9 @@ pub when-accepted : {A : Type 0} (Q : A → Type 0) (test : Bool) (a b : A) → 
 when-accepted Q true a b holds answer = absurd (let z : _≡_ {A = ℕ} 0 1 = cc in omega arith)
 when-accepted Q false a b holds answer = let same : a ≡ b = cc in subst Q same (holds refl)
 
-pub when-refused : {A : Type 0} (test : Bool) (a : A) → refuse-when test 10 (accepted a) ≡ refused 10 0 → test ≡ false → ⊥
-when-refused true a answer fails = true≢false fails
-when-refused false a answer fails = let z : _≡_ {A = ℕ} 0 1 = cc in omega arith
+-- where the test fails, whatever the value is, is accepted
+pub when-led : {A : Type 0} {test : Bool} {a b : A} → test ≡ false → a ≡ b → refuse-when test 10 (accepted a) ≡ accepted b
+when-led {A} fails same = ap₂ (λ (t : Bool) (c : A). refuse-when t 10 (accepted c)) fails same
 
 -- ---- the same of an outcome whose value is put under g
 module _ {A B : Type 0} (g : A → B) where
@@ -40,9 +40,8 @@ module _ {A B : Type 0} (g : A → B) where
   mapped-accepted Q (accepted a) b holds answer = let same : g a ≡ b = cc in subst Q same (holds a refl)
   mapped-accepted Q (refused number place) b holds answer = absurd (let z : _≡_ {A = ℕ} 0 1 = cc in omega arith)
 
-  pub mapped-refused : (o : Outcome A) → mapped g o ≡ refused 10 0 → o ≡ refused 10 0
-  mapped-refused (accepted a) answer = absurd (let z : _≡_ {A = ℕ} 0 1 = cc in omega arith)
-  mapped-refused (refused number place) answer = cc
+  pub mapped-led : (o : Outcome A) (a : A) (b : B) → o ≡ accepted a → g a ≡ b → mapped g o ≡ accepted b
+  mapped-led o a b answer same = ap (mapped g) answer ∙ ap accepted same
 
 -- ---- a move that does not leave: s - 1 sides of length h, from x
 module _ (L h s x : ℕ) where

@@ -7,8 +7,9 @@
 --   Positions      the positions of parent, child, successor, first and last descendant; that the descendants are valid and of the asked
 --                  level (of parent and child `Lawful` says it)
 --   TotalOrder     the order of two is a total order
---   Faces          a face neighbour shares that whole face and is valid, its neighbour across its own face is the element again, and
---                  refused 10 means that no other valid element of the level lies across; `points` gives the corner points of a face
+--   Faces          a face neighbour lies across: it is another valid element of the level and shares that whole face; what lies across is
+--                  the neighbour, so refused 10 means that nothing does; its neighbour across its own face is the element again.
+--                  `points` gives the corner points of a face, `faceAcross` its number as the neighbour has it
 --   Families       family is yes exactly for the children of one parent, in order
 --
 -- Assumes nothing.
@@ -94,4 +95,4 @@ module _ {E : Type 0} (S : Shape E) where
       pub either : (e : E) (i : ℕ) → (S .neighbour e i ≡ refused 10 0) ⊎ ((f : E) × (S .neighbour e i ≡ accepted f))
       pub across : (e f : E) (i : ℕ) → Sound e → i < S .faces → S .neighbour e i ≡ accepted f → Across e f i
       pub back : (e f : E) (i : ℕ) → Sound e → i < S .faces → S .neighbour e i ≡ accepted f → S .neighbour f (faceAcross i) ≡ accepted e
-      pub alone : (e f : E) (i : ℕ) → Sound e → i < S .faces → S .neighbour e i ≡ refused 10 0 → Across e f i → ⊥
+      pub only : (e f : E) (i : ℕ) → Sound e → i < S .faces → Across e f i → S .neighbour e i ≡ accepted f

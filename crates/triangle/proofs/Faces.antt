@@ -9,12 +9,13 @@ use native.Mathlib.Decide.{ℕ-discrete}
 use native.Mathlib.Omega.{arith}
 use lib.ListN.{getD}
 use borrow.Author.Tests.{not-false}
-use Rattle.paper.specs.Outcome.{accepted, refuse-when}
+use Rattle.paper.specs.Outcome.{accepted}
 use Rattle.paper.proofs.Tests.{or-none}
 use Rattle.tree.specs.Anchors.{side, moved, offEdge}
 use Rattle.tree.proofs.Anchor.{side-pos, grid-lt}
+use Rattle.tree.proofs.Cases.{below-2}
 use Rattle.tree.specs.Laws.{Across, Faces}
-use Rattle.tree.proofs.Faces.{either-way, when-accepted, when-refused, move-far, move-reached, move-back, move-grid}
+use Rattle.tree.proofs.Faces.{either-way, when-accepted, when-led, move-far, move-reached, move-back, move-grid}
 use Rattle.triangle.specs.declared.rows.Step.{Step}
 use Rattle.triangle.specs.declared.Triangle.{Triangle}
 use Rattle.triangle.specs.Rows.{step, faceRow}
@@ -88,6 +89,19 @@ module _ (L l x y x′ y′ : ℕ) where
       each-face (λ (t i : ℕ). Agree (facePoints L (one t) i) (facePoints L (two t) (2 - i)) → (x ≡ x′) × (y ≡ y′))
       (omega arith) (omega arith) (omega arith) (omega arith) (omega arith) (omega arith)
 
+  -- the first two corners tell the anchor and the type
+  told : 0 < h → (t s : ℕ) → t < 2 → s < 2 → Agree (facePoints L (one t) 2) (facePoints L (two s) 2) → (x ≡ x′) × ((y ≡ y′) × (t ≡ s))
+  told positive t s kind other =
+      let Told : ℕ → ℕ → Type 0 = λ u v. Agree (facePoints L (one u) 2) (facePoints L (two v) 2) → (x ≡ x′) × ((y ≡ y′) × (u ≡ v)) in
+      below-2 (λ (u : ℕ). Told u s) (below-2 (Told 0) (omega arith) (omega arith) s other) (below-2 (Told 1) (omega arith) (omega arith) s other) t kind
+
+-- so of one level they tell the triangle
+pub triangle-told : (L : ℕ) (e f : Triangle) → Known L e → Known L f → e .level ≡ f .level → facePoints L e 2 ≡ facePoints L f 2 → e ≡ f
+triangle-told L e f k j level same =
+    let alike = same ∙ ap (λ (l : ℕ). facePoints L (record { x = f .x; y = f .y; level = l; kind = f .kind }) 2) (sym level) in
+    let here = told L (e .level) (e .x) (e .y) (f .x) (f .y) (side-pos L (e .level)) (e .kind) (f .kind) (k .typed) (j .typed) (agree _ _ alike) in
+    triangle-path e f (here .0) (here .1 .0) level (here .1 .1)
+
 -- ---- the step of a row
 abbrev out : ℕ → Triangle → Step → Bool
 out L e s =
@@ -111,8 +125,8 @@ module _ (L : ℕ) (e : Triangle) (s : Step) (x y : ℕ) where
         ∙ ap₂ (λ (a b : ℕ). not (insideRoot (s .kind) a b)) (in-x .1) (in-y .1)
         ∙ ap not inside
 
-    leads : there L e s ≡ record { x = x; y = y; level = e .level; kind = s .kind }
-    leads = triangle-path _ _ (in-x .1) (in-y .1) refl refl
+    leads : insideRoot (s .kind) x y ≡ true → acrossBy L e s ≡ accepted (record { x = x; y = y; level = e .level; kind = s .kind })
+    leads inside = when-led (passes inside) (triangle-path _ _ (in-x .1) (in-y .1) refl refl)
 
 module _ (L : ℕ) (e : Triangle) (i : ℕ) (k : Known L e) (small : i < 3) where
   abbrev row : Step
@@ -163,11 +177,9 @@ module _ (L : ℕ) (e : Triangle) (i : ℕ) (k : Known L e) (small : i < 3) wher
         let in-x = move-back L width (row .x) (e .x) (bounds .0) (grid-lt L (e .level) (e .x) (k .grid-x)) stays-x in
         let in-y = move-back L width (row .y) (e .y) (bounds .1 .0) (grid-lt L (e .level) (e .y) (k .grid-y)) (rest .0) in
         ap (acrossBy L to) (turned (e .kind) i (k .typed) small)
-        ∙ ap₂ (λ (t : Bool) (g : Triangle). refuse-when t 10 (accepted g))
-        (passes L to back (e .x) (e .y) in-x in-y (k .inside))
-        (leads L to back (e .x) (e .y) in-x in-y)
+        ∙ leads L to back (e .x) (e .y) in-x in-y (k .inside)
 
-  reached : (f : Triangle) → Across (triangleTo L) (facePoints L) faceAcross e f i → out L e row ≡ false
+  reached : (f : Triangle) → Across (triangleTo L) (facePoints L) faceAcross e f i → neighbour L e i ≡ accepted f
   unfolding triangleTo
   reached f a = by (ℕ-discrete (e .kind) (f .kind))
     where
@@ -178,17 +190,18 @@ module _ (L : ℕ) (e : Triangle) (i : ℕ) (k : Known L e) (small : i < 3) wher
       agreed t same =
           agree _ _ (a .shared ∙ ap (λ (g : Triangle). facePoints L g (2 - i)) (triangle-path f _ refl refl (a .level) same))
 
-      by : Dec (e .kind ≡ f .kind) → out L e row ≡ false
+      by : Dec (e .kind ≡ f .kind) → neighbour L e i ≡ accepted f
       by (yes same) =
           let here = itself L (e .level) (e .x) (e .y) (f .x) (f .y) (side-pos L (e .level)) (e .kind) i (k .typed) small (agreed (e .kind) (sym same)) in
           absurd (a .other (triangle-path e f (here .0) (here .1) (sym (a .level)) same))
       by (no differ) =
           let typed : f .kind ≡ row .kind = omega (arith, other-type (e .kind) i (k .typed) small, k .typed, kf .typed) in
           let far = meets L (e .level) (e .x) (e .y) (f .x) (f .y) (e .kind) i (k .typed) small (agreed (row .kind) typed) in
-          passes L e row (f .x) (f .y)
+          leads L e row (f .x) (f .y)
           (move-reached L width (row .x) (e .x) (f .x) (far .0) (grid-lt L (f .level) (f .x) (kf .grid-x)))
           (move-reached L width (row .y) (e .y) (f .y) (far .1) (grid-lt L (f .level) (f .y) (kf .grid-y)))
           (subst (λ (t : ℕ). insideRoot t (f .x) (f .y) ≡ true) typed (kf .inside))
+          ∙ ap accepted (triangle-path _ f refl refl (sym (a .level)) (sym typed))
 
 pub triangle-faces : (L : ℕ) → Faces (triangleTo L) (facePoints L) faceAcross
 unfolding triangleTo
@@ -201,6 +214,5 @@ triangle-faces L =
       back = λ e f i ok small.
           when-accepted (λ (g : Triangle). neighbour L g (faceAcross i) ≡ accepted e) (out L e (faceRow (e .kind) i)) _ f
           (back-there L e i (known L e ok) small);
-      alone = λ e f i ok small answer a.
-          when-refused (out L e (faceRow (e .kind) i)) _ answer (reached L e i (known L e ok) small f a);
+      only = λ e f i ok small. reached L e i (known L e ok) small f;
     }

@@ -4,7 +4,7 @@
 --   corner L e i       "With anchor (x, y) a triangle of type 0 has corners (x,y), (x+h,y), (x+h,y+h); type 1 has (x,y), (x,y+h),
 --                      (x+h,y+h)"
 --   facePoints L e i   "Face i of a triangle (0 to 2) is opposite corner i": the two other corners
---   faceAcross i         the number of that face as the neighbour has it
+--   faceAcross i       the number of that face as the neighbour has it
 --   Midpoint m a b     m lies half way between a and b
 --   beyChild c i       the thesis's definition 3: the corners of Bey's child i of the triangle with the corners c, as pairs of corner
 --                      numbers whose midpoints they are (its T0 reads x2 where x02 is meant)

@@ -1,4 +1,4 @@
--- `tree::off_grid` meets its contract: rounding offEdge exactly the multiples of the side. Assumes nothing.
+-- `tree::off_grid` meets its contract: rounding leaves exactly the multiples of the side. Assumes nothing.
 use borrow.Author.Needs.{needs}
 use borrow.Author.Tests.{le-leb, lt-leb}
 use Rattle.tree.specs.Anchors.{side}
