@@ -6,8 +6,8 @@
  *
  * Every call takes any values at all and only reads the columns that it is lent. A column's pointer must not be NULL,
  * also where its length is 0. Its answer has refusal 0 and the
- * value, or a refusal and a value of zeros. A refusal is place * 256 + number. The place is 0, except that compare and
- * family give the index of the element at fault. Each call below names its refusals in the order of the tests; the
+ * value, or a refusal and a value of zeros. A refusal is place * 256 + number. The place is 0, except that compare,
+ * family and the list calls give the index of the element or leaf at fault. Each call below names its refusals in the order of the tests; the
  * first that applies is given. The numbers:
  *
  *    1  level above 21
@@ -20,7 +20,9 @@
  *    8  child or face number too large
  *    9  successor of the last
  *   10  neighbour outside the root
- *   11  columns of unequal length
+ *   11  columns of one list unequal; input list empty or over 1,048,576
+ *   12  list doesn't cover as stated
+ *   17  roots outside 1 to 4,096
  */
 #ifndef GWERNILOC_H
 #define GWERNILOC_H
@@ -220,6 +222,15 @@ gw_order_result gw_prism_compare(gw_prism e, gw_prism f);
 gw_number_result gw_prism_family(const uint8_t *level, size_t level_length, const uint32_t *x, size_t x_length,
                                  const uint32_t *y, size_t y_length, const uint32_t *z, size_t z_length,
                                  const uint8_t *kind, size_t kind_length);
+
+/* ---- leaf lists: columns root, level, position, each a pointer and a length */
+
+/** Whether the leaves are a valid list of k roots: the first starts root 0, each later one starts where the one before it
+ *  ended, the last ends root k-1. Returns 0, or the first refusal: 17 roots outside 1 to 4,096; 11 columns unequal, empty
+ *  or over 1,048,576; then at each leaf (place = leaf) 1 level, 5 position, 12 it does not start there; 12 at the length
+ *  of a list that ends early. */
+uint64_t gw_list_check(uint16_t k, const uint16_t *root, size_t roots, const uint8_t *level, size_t levels,
+                       const uint64_t *position, size_t positions);
 
 #ifdef __cplusplus
 }

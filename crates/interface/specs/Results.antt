@@ -3,6 +3,7 @@
 --   word o         0 when accepted, else place·256 + number; a place is taken modulo 2^56, so that the word always holds it (no lent
 --                  column has as many entries)
 --   valueOr z o    the value, z on a refusal
+--   checkResult    of a call with no value: the word alone
 --   lineResult, triangleResult, prismResult, numberResult, familyResult, orderResult
 --                  what the call with the outcome o returns: on a refusal every field of the value is 0
 --   signOf o       less is -1, same 0, greater 1
@@ -55,3 +56,6 @@ signOf greater = pos 1
 
 unfoldable pub orderResult : Outcome Order → OrderResult
 orderResult o = record { refusal = word o; value = signOf (valueOr same o) }
+
+unfoldable pub checkResult : Outcome (Unit {0}) → ℕ
+checkResult o = word o

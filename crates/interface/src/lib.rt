@@ -1,6 +1,7 @@
 // The C interface: one flat function for each public call. A result is the refusal's word and the value beside it;
 // `specs/Results.antt` says how, and each contract is that of the call.
 mod line_calls;
+mod list_calls;
 mod prism_calls;
 mod results;
 mod triangle_calls;

@@ -4,6 +4,7 @@ use crate::NumberResult;
 use crate::OrderResult;
 use crate::PrismResult;
 use crate::TriangleResult;
+use leaves::ListAnswer;
 use line::Line;
 use line::LineAnswer;
 use paper::FamilyAnswer;
@@ -19,7 +20,8 @@ ghost use Rattle.paper.specs.Readings.{positionOf, familyOf, orderOf};
 ghost use Rattle.line.specs.Elements as lines;
 ghost use Rattle.triangle.specs.Elements as triangles;
 ghost use Rattle.prism.specs.Elements as prisms;
-ghost use Rattle.interface.specs.Results.{lineResult, triangleResult, prismResult, numberResult, familyResult, orderResult};
+ghost use Rattle.interface.specs.Results.{lineResult, triangleResult, prismResult, numberResult, familyResult, orderResult, checkResult};
+ghost use Rattle.leaves.specs.Readings.{listOf};
 
 // The word of a refusal.
 fn word(number: u8, place: u64) -> u64
@@ -142,5 +144,14 @@ pub(crate) fn of_order(a: OrderAnswer) -> OrderResult
             refusal: word(number, place),
             value: 0,
         },
+    }
+}
+
+pub(crate) fn of_list(a: ListAnswer) -> u64
+    ensures { λ r. ⌜ r ≡ checkResult (listOf a) ⌝ }
+{
+    match a {
+        ListAnswer::Valid => 0,
+        ListAnswer::Refused(number, place) => word(number, place),
     }
 }

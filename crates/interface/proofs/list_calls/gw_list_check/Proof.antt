@@ -1,0 +1,18 @@
+-- `gw_list_check` meets its contract: the word of the call's outcome. Assumes nothing.
+use mathlib.Core.Path.{ap, _∙_}
+use borrow.Author.Needs.{needs}
+use Rattle.interface.specs.Results.{checkResult}
+use Rattle.interface.proofs.list_calls.gw_list_check.Statement.{statement}
+use Rattle.interface.proofs.list_calls.gw_list_check.Tie as tie
+
+check-list-requires : tie.Need-check-list-requires
+check-list-requires c κs = search needs
+
+of-list-requires : tie.Need-of-list-requires
+of-list-requires c κs = search needs
+
+returns : tie.Need-returns
+returns c = c .of-list .ensures ∙ ap checkResult (c .before .check-list .ensures)
+
+pub gw-list-check-spec : {M : Type 1} → statement M
+gw-list-check-spec = tie.close (tie.spec check-list-requires of-list-requires returns)
