@@ -4,11 +4,11 @@
  * coordinates are its anchor. Its kind is its type: a triangle of type 0 has the corners (x, y), (x+h, y), (x+h, y+h),
  * one of type 1 has (x, y), (x, y+h), (x+h, y+h). A prism stands on its triangle from z to z+h. A line has no type.
  *
- * Every call takes any values at all and only reads the columns that it is lent. A column's pointer must not be NULL,
- * also where its length is 0. Its answer has refusal 0 and the
- * value, or a refusal and a value of zeros. A refusal is place * 256 + number. The place is 0, except that compare,
- * family and the list calls give the index of the element or leaf at fault. Each call below names its refusals in the order of the tests; the
- * first that applies is given. The numbers:
+ * Every call takes any values at all. A column's pointer must not be NULL, also where its length is 0. A const column is
+ * only read; any other is written at its front by an accepted call, and a refused call leaves it as it was. An answer has
+ * refusal 0 and the value, or a refusal and a value of zeros. A refusal is place * 256 + number. The place is 0, except
+ * that compare, family and the list calls give the index of the element or leaf at fault. Each call below names its
+ * refusals in the order of the tests; the first that applies is given:
  *
  *    1  level above 21
  *    2  anchor 2^21 or more, or no multiple of h
@@ -22,6 +22,8 @@
  *   10  neighbour outside the root
  *   11  columns of one list unequal; input list empty or over 1,048,576
  *   12  list doesn't cover as stated
+ *   14  no room: place = entries needed
+ *   15  result over 1,048,576 leaves
  *   17  roots outside 1 to 4,096
  */
 #ifndef GWERNILOC_H
@@ -231,6 +233,12 @@ gw_number_result gw_prism_family(const uint8_t *level, size_t level_length, cons
  *  of a list that ends early. */
 uint64_t gw_list_check(uint16_t k, const uint16_t *root, size_t roots, const uint8_t *level, size_t levels,
                        const uint64_t *position, size_t positions);
+
+/** A uniform start: writes the leaves of k roots, all at one level, at the front of the columns, and nothing behind them.
+ *  The value is how many. Refuses: 17 roots outside 1 to 4,096; 11 columns unequal; 1 level above 21; 15 over 1,048,576
+ *  leaves; 14 no room, place = the entries needed. */
+gw_number_result gw_list_uniform(uint16_t k, uint8_t level, uint16_t *root, size_t roots, uint8_t *leaf_level,
+                                 size_t levels, uint64_t *position, size_t positions);
 
 #ifdef __cplusplus
 }

@@ -3,13 +3,25 @@
 use std::fmt;
 
 /// Why a call was refused: a number of the table in `gwerniloc.h`, and a place. The place is 0, except that
-/// `compare` and `family` give the index of the element at fault.
+/// `compare` and `family` give the index of the element at fault, `check_list` that of the leaf, and refusal 14 of
+/// `uniform` how many entries the columns need.
 #[derive(Clone, Copy, Debug, PartialEq, Eq, Hash)]
 pub struct Refusal {
-    /// The number, 1 to 11.
+    /// The number, 1 to 12, 14, 15 or 17.
     pub number: u8,
     /// The place.
     pub place: u64,
+}
+
+impl Refusal {
+    /// What a refusal of C says: 0 is accepted, anything else is place * 256 + number.
+    #[inline]
+    pub fn from_c(refusal: u64) -> Result<(), Self> {
+        if refusal == 0 {
+            return Ok(());
+        }
+        Err(Refusal { number: (refusal & 255) as u8, place: refusal >> 8 })
+    }
 }
 
 impl fmt::Display for Refusal {
@@ -46,9 +58,6 @@ impl<T: Default> Answer<T> {
     /// The same answer as a `Result`.
     #[inline]
     pub fn result(self) -> Result<T, Refusal> {
-        if self.refusal == 0 {
-            return Ok(self.value);
-        }
-        Err(Refusal { number: (self.refusal & 255) as u8, place: self.refusal >> 8 })
+        Refusal::from_c(self.refusal).map(|()| self.value)
     }
 }

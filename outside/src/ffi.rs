@@ -55,6 +55,26 @@ extern "C" {
         kind: *const u8,
         kind_length: usize,
     ) -> Answer<u64>;
+
+    pub fn gw_list_check(
+        k: u16,
+        root: *const u16,
+        roots: usize,
+        level: *const u8,
+        levels: usize,
+        position: *const u64,
+        positions: usize,
+    ) -> u64;
+    pub fn gw_list_uniform(
+        k: u16,
+        level: u8,
+        root: *mut u16,
+        roots: usize,
+        leaf_level: *mut u8,
+        levels: usize,
+        position: *mut u64,
+        positions: usize,
+    ) -> Answer<u64>;
 }
 
 #[cfg(test)]
@@ -163,5 +183,42 @@ mod tests {
         assert_eq!(family(0, 0), Answer { refusal: 0, value: 0 });
         assert_eq!(family(1, 0), Answer { refusal: 11, value: 0 });
         assert_eq!(family(1, 1), Answer { refusal: 1, value: 0 });
+    }
+    /// A refusal of a list in one word, and lengths that are taken from their own column.
+    #[test]
+    fn lists() {
+        let (root, level, position) = ([0, 1, 2], [0, 0, 22], [0, 0, 0]);
+        let check = |k, roots, levels, positions| unsafe {
+            gw_list_check(k, root.as_ptr(), roots, level.as_ptr(), levels, position.as_ptr(), positions)
+        };
+        assert_eq!(check(2, 2, 2, 2), 0);
+        assert_eq!(check(3, 3, 3, 3), 2 << 8 | 1);
+        assert_eq!(check(3, 2, 2, 2), 2 << 8 | 12);
+        assert_eq!([check(2, 1, 2, 2), check(2, 2, 1, 2), check(2, 2, 2, 1), check(2, 0, 0, 0)], [11; 4]);
+        assert_eq!([check(0, 2, 2, 2), check(4_097, 0, 1, 2)], [17; 2]);
+    }
+
+    /// A refused uniform start has value 0, and writes nothing; lengths are taken from their own column.
+    #[test]
+    fn uniform_starts() {
+        let (mut root, mut level, mut position) = ([7; 9], [7; 9], [7; 9]);
+        let mut start = |k, at, roots, levels, positions| {
+            let (root, level, position) = (root.as_mut_ptr(), level.as_mut_ptr(), position.as_mut_ptr());
+            unsafe { gw_list_uniform(k, at, root, roots, level, levels, position, positions) }
+        };
+        let refused = |refusal| Answer { refusal, value: 0 };
+        assert_eq!([start(0, 22, 0, 0, 1), start(4_097, 7, 0, 1, 0)], [refused(17); 2]);
+        assert_eq!([start(1, 22, 8, 9, 9), start(1, 22, 9, 8, 9), start(1, 7, 9, 9, 8)], [refused(11); 3]);
+        assert_eq!([start(1, 22, 0, 0, 0), start(4_096, 255, 9, 9, 9)], [refused(1); 2]);
+        assert_eq!([start(1, 7, 0, 0, 0), start(4_096, 21, 9, 9, 9)], [refused(15); 2]);
+        assert_eq!([start(1, 1, 0, 0, 0), start(1, 1, 7, 7, 7)], [refused(8 << 8 | 14); 2]);
+        assert_eq!((root, level, position), ([7; 9], [7; 9], [7; 9]));
+        let mut start = |k, at, n| unsafe {
+            gw_list_uniform(k, at, root.as_mut_ptr(), n, level.as_mut_ptr(), n, position.as_mut_ptr(), n)
+        };
+        assert_eq!(start(1, 1, 9), Answer { refusal: 0, value: 8 });
+        assert_eq!(root, [0, 0, 0, 0, 0, 0, 0, 0, 7]);
+        assert_eq!(level, [1, 1, 1, 1, 1, 1, 1, 1, 7]);
+        assert_eq!(position, [0, 1, 2, 3, 4, 5, 6, 7, 7]);
     }
 }

@@ -5,6 +5,7 @@ mod common;
 
 use std::fmt::Debug;
 
+use common::random::Random;
 use common::{Both, Columns, Shape};
 use gwerniloc::{Line, Prism, Refusal, Triangle, HIGHEST_LEVEL};
 
@@ -13,26 +14,7 @@ const ROUNDS: u64 = 120_000;
 /// Child, face and level numbers on both sides of every limit.
 const NUMBERS: [u8; 14] = [0, 1, 2, 3, 4, 5, 6, 7, 8, 9, 21, 22, 23, 255];
 
-/// The generator splitmix64.
-struct Random(u64);
-
 impl Random {
-    fn next(&mut self) -> u64 {
-        self.0 = self.0.wrapping_add(0x9e37_79b9_7f4a_7c15);
-        let mut v = self.0;
-        v = (v ^ (v >> 30)).wrapping_mul(0xbf58_476d_1ce4_e5b9);
-        v = (v ^ (v >> 27)).wrapping_mul(0x94d0_49bb_1331_11eb);
-        v ^ (v >> 31)
-    }
-
-    fn below(&mut self, limit: u64) -> u64 {
-        self.next() % limit
-    }
-
-    fn pick<T: Copy>(&mut self, from: &[T]) -> T {
-        from[self.below(from.len() as u64) as usize]
-    }
-
     fn level(&mut self) -> u8 {
         self.below(HIGHEST_LEVEL as u64 + 1) as u8
     }

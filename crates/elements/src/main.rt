@@ -1,5 +1,5 @@
 // Answers a few questions about prisms, as the geologists put them.
-use paper::PositionAnswer;
+use paper::NumberAnswer;
 use prism::Prism;
 use prism::PrismAnswer;
 
@@ -30,14 +30,14 @@ fn say(a: PrismAnswer) {
     }
 }
 
-fn say_position(a: PositionAnswer) {
+fn say_position(a: NumberAnswer) {
     match a {
-        PositionAnswer::Is(p) => {
+        NumberAnswer::Is(p) => {
             io::write_all(1, b"position ");
             io::print_decimal(1, p);
             io::write_all(1, b"\n");
         }
-        PositionAnswer::Refused(number, place) => refused(number, place),
+        NumberAnswer::Refused(number, place) => refused(number, place),
     }
 }
 

@@ -6,16 +6,22 @@
 --   checkResult    of a call with no value: the word alone
 --   lineResult, triangleResult, prismResult, numberResult, familyResult, orderResult
 --                  what the call with the outcome o returns: on a refusal every field of the value is 0
+--   UniformResult  what a uniform start returns, and what its three columns hold afterwards
 --   signOf o       less is -1, same 0, greater 1
 --
 -- Assumes nothing.
+use mathlib.Core.Path.{_≡_}
 use mathlib.Core.Bool.{Bool, true, false}
+use mathlib.Core.List.{List}
 use Prim.Native.Nat.{ℕ, _+_, _*_, _%_, _^_}
 use lib.IntN.{ℤ, pos, negsuc}
+use lib.ListN.{length}
 use Rattle.paper.specs.Outcome.{Outcome, accepted, refused, Order, less, same, greater}
 use Rattle.line.specs.declared.Line.{Line}
 use Rattle.triangle.specs.declared.Triangle.{Triangle}
 use Rattle.prism.specs.declared.Prism.{Prism}
+use Rattle.leaves.specs.Calls.{Columns, equalColumns, uniform}
+use Rattle.leaves.specs.Leaves as leaves
 use Rattle.interface.specs.declared.LineResult.{LineResult}
 use Rattle.interface.specs.declared.TriangleResult.{TriangleResult}
 use Rattle.interface.specs.declared.PrismResult.{PrismResult}
@@ -59,3 +65,8 @@ orderResult o = record { refusal = word o; value = signOf (valueOr same o) }
 
 unfoldable pub checkResult : Outcome (Unit {0}) → ℕ
 checkResult o = word o
+
+pub record UniformResult (k level : ℕ) (r : NumberResult) (roots levels positions roots′ levels′ positions′ : List ℕ) : Type 0 where
+  pub result : r ≡ numberResult (uniform 8 21 k level (equalColumns roots levels positions) (length roots))
+  pub columns : Columns (uniform 8 21 k level (equalColumns roots levels positions) (length roots)) (leaves.uniform 8 21 k level)
+      roots levels positions roots′ levels′ positions′

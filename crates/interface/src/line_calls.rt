@@ -22,7 +22,7 @@ pub extern "C" fn gw_line_at(level: u8, position: u64) -> LineResult
 pub extern "C" fn gw_line_position(e: Line) -> NumberResult
     ensures { λ r. ⌜ r ≡ numberResult (Calls.position line e) ⌝ }
 {
-    results::of_position(e.position())
+    results::of_number(e.position())
 }
 
 #[no_mangle]

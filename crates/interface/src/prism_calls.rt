@@ -20,7 +20,7 @@ pub extern "C" fn gw_prism_at(level: u8, position: u64) -> PrismResult
 pub extern "C" fn gw_prism_position(e: Prism) -> NumberResult
     ensures { λ r. ⌜ r ≡ numberResult (Calls.position prism e) ⌝ }
 {
-    results::of_position(e.position())
+    results::of_number(e.position())
 }
 
 #[no_mangle]

@@ -8,15 +8,15 @@ use leaves::ListAnswer;
 use line::Line;
 use line::LineAnswer;
 use paper::FamilyAnswer;
+use paper::NumberAnswer;
 use paper::OrderAnswer;
-use paper::PositionAnswer;
 use prism::Prism;
 use prism::PrismAnswer;
 use triangle::Triangle;
 use triangle::TriangleAnswer;
 ghost use mathlib.Core.Path.{_≡_};
 ghost use Prim.Native.Nat.{_+_, _*_, _%_, _^_};
-ghost use Rattle.paper.specs.Readings.{positionOf, familyOf, orderOf};
+ghost use Rattle.paper.specs.Readings.{valueOf, familyOf, orderOf};
 ghost use Rattle.line.specs.Elements as lines;
 ghost use Rattle.triangle.specs.Elements as triangles;
 ghost use Rattle.prism.specs.Elements as prisms;
@@ -86,15 +86,15 @@ pub(crate) fn of_prism(a: PrismAnswer) -> PrismResult
     }
 }
 
-pub(crate) fn of_position(a: PositionAnswer) -> NumberResult
-    ensures { λ r. ⌜ r ≡ numberResult (positionOf a) ⌝ }
+pub(crate) fn of_number(a: NumberAnswer) -> NumberResult
+    ensures { λ r. ⌜ r ≡ numberResult (valueOf a) ⌝ }
 {
     match a {
-        PositionAnswer::Is(p) => NumberResult {
+        NumberAnswer::Is(p) => NumberResult {
             refusal: 0,
             value: p,
         },
-        PositionAnswer::Refused(number, place) => NumberResult {
+        NumberAnswer::Refused(number, place) => NumberResult {
             refusal: word(number, place),
             value: 0,
         },

@@ -20,7 +20,7 @@ pub extern "C" fn gw_triangle_at(level: u8, position: u64) -> TriangleResult
 pub extern "C" fn gw_triangle_position(e: Triangle) -> NumberResult
     ensures { λ r. ⌜ r ≡ numberResult (Calls.position triangle e) ⌝ }
 {
-    results::of_position(e.position())
+    results::of_number(e.position())
 }
 
 #[no_mangle]

@@ -1,13 +1,12 @@
 -- The list check accepts exactly the valid lists: leaf by leaf, its tests are the conditions of a list that covers. Assumes nothing.
-use mathlib.Core.Path.{_≡_, refl, ap, ap₂, _∙_, sym}
+use mathlib.Core.Path.{_≡_, ap, ap₂, _∙_, sym}
 use mathlib.Core.Logic.{_↔_}
-use mathlib.Core.Bool.{Bool, true, false, not, _&&_, and-eq-true-iff}
+use mathlib.Core.Bool.{true, not, _&&_, and-eq-true-iff}
 use mathlib.Core.List.{List, [], _∷_}
 use Prim.Native.Nat.{ℕ, suc, _^_, _≤_, _<_}
-use native.Mathlib.Omega.{arith}
 use lib.Dec.{leb, ltb, eqb}
 use borrow.Author.Tests.{ltb-true, ltb-false, leb-false, eqb-true, not-false, lt-ltb, le-ltb, lt-leb, eq-eqb}
-use Rattle.paper.specs.Outcome.{Outcome, accepted, refused, passed, refuse-when-at}
+use Rattle.paper.specs.Outcome.{Outcome, refused, passed}
 use Rattle.paper.proofs.Tests.{passed-by, no-fault}
 use Rattle.paper.proofs.Scan.{fault-none, never, accepted-by, carry}
 use Rattle.leaves.specs.Leaves.{Leaf, Place, place, begin, startOf, endOf, Covers, Valid}

@@ -5,7 +5,7 @@ use native.Mathlib.Omega.{arith}
 use Rattle.leaves.specs.Laws.{Checked}
 use Rattle.leaves.proofs.Check.{exactly}
 use Rattle.leaves.proofs.Cells.{once-each}
-use Rattle.leaves.proofs.Uniform.{uniform-valid}
+use Rattle.leaves.proofs.UniformValid.{uniform-valid}
 
 pub checked : (n L : ℕ) → 1 < n → Checked n L
 checked n L several =

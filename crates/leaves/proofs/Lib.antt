@@ -1,7 +1,9 @@
 pub mod Check
 pub mod Span
-pub mod Uniform
+pub mod Starting
+pub mod UniformValid
 pub mod Cells
 pub mod Checked
 pub mod Shift
 pub mod Turns
+pub mod Filling

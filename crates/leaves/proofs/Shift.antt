@@ -1,7 +1,7 @@
 -- The code's shifts are the powers of the definition, where b bits a level for L levels stay below 64. Assumes nothing.
 use mathlib.Core.Path.{_≡_, ap, _∙_, sym}
 use Prim.Native.Nat.{ℕ, _+_, _-_, _*_, _/_, _%_, _^_, _≤_, _<_}
-use native.Mathlib.Nat.{mul-le-mul-left, mul-le-mul-right, mod-eq-of-lt, div-eq-of-lt, div-lt-iff-lt-mul, one-mul, le-refl, mul-add, add-sub-of-le, lt-of-not-le}
+use native.Mathlib.Nat.{mul-le-mul-left, mul-le-mul-right, mod-eq-of-lt, div-eq-of-lt, div-lt-iff-lt-mul, mul-add, add-sub-of-le}
 use native.Mathlib.Omega.{arith}
 use lib.Pow.{pow-pos, pow-mono, pow-add}
 use Rattle.tree.proofs.Digits.{power-bits, shifted-power}

@@ -2,3 +2,4 @@ pub mod Leaves
 pub mod Calls
 pub mod Laws
 pub mod Readings
+pub mod Start

@@ -6,9 +6,9 @@
 -- Assumes nothing.
 use Rattle.paper.specs.Outcome.{Outcome, passed, refused}
 use Rattle.leaves.specs.declared.ListAnswer.{ListAnswer}
-use Rattle.leaves.specs.declared.ListAnswer.the-variants as list
 use Rattle.leaves.specs.declared.Cursor.{Cursor}
 use Rattle.leaves.specs.Leaves.{Place, place}
+use Rattle.leaves.specs.declared.ListAnswer.the-variants as list
 
 abbrev pub listOf : ListAnswer → Outcome (Unit {0})
 listOf list.Valid = passed

@@ -1,15 +1,18 @@
 // Leaf lists over lent columns: root, level, position. Each contract is a call of `specs/Calls.antt` at eight children and highest level 21;
 // the engine behind them takes the bits of a child number and the highest level as ordinary numbers.
 use paper::Fault;
+use paper::NumberAnswer;
 ghost use mathlib.Core.Path.{_≡_};
 ghost use Prim.Native.Nat.{_*_, _^_, _≤_, _<_};
 ghost use lib.ListN.{length};
 ghost use Rattle.paper.specs.Outcome.{passed};
 ghost use Rattle.paper.specs.Readings.{checksOf};
-ghost use Rattle.leaves.specs.Leaves.{leaf, leaves, place};
+ghost use Rattle.leaves.specs.Leaves.{leaves, place};
 ghost use Rattle.leaves.specs.Calls.{walked, listed};
-ghost use Rattle.leaves.specs.Readings.{listOf, placeOf};
+ghost use Rattle.leaves.specs.Readings.{listOf};
+ghost use Rattle.leaves.specs.Start.{Started};
 
+mod start;
 mod step;
 
 // Whether a list is valid, or the refusal's number and place.
@@ -51,6 +54,43 @@ pub fn check_list(k: u16, roots: &[u16], levels: &[u8], positions: &[u64]) -> Li
         return ListAnswer::Refused(fault.number, fault.place);
     }
     ListAnswer::Valid
+}
+
+// The leaves of some roots, all at one level, in order. Refused: 17, 11, 1, 15, 14.
+pub fn uniform(
+    k: u16,
+    level: u8,
+    roots: &mut [u16],
+    levels: &mut [u8],
+    positions: &mut [u64],
+) -> NumberAnswer
+    ensures { λ r. ⌜ Started k level r (now (roots .entry)) (now (levels .entry)) (now (positions .entry)) (now (roots .exit)) (now (levels .exit)) (now (positions .exit)) ⌝ }
+{
+    if k == 0 {
+        return NumberAnswer::Refused(17, 0);
+    }
+    if 4096 < k {
+        return NumberAnswer::Refused(17, 0);
+    }
+    if roots.len() != levels.len() {
+        return NumberAnswer::Refused(11, 0);
+    }
+    if roots.len() != positions.len() {
+        return NumberAnswer::Refused(11, 0);
+    }
+    if 21 < level {
+        return NumberAnswer::Refused(1, 0);
+    }
+    // Whether k times 8^level passes the limit, without the product.
+    if 1048576u64 >> (3 * level) < k as u64 {
+        return NumberAnswer::Refused(15, 0);
+    }
+    let count = (k as u64) << (3 * level);
+    if (roots.len() as u64) < count {
+        return NumberAnswer::Refused(14, count);
+    }
+    start::fill(3 * level, level, count as usize, roots, levels, positions);
+    NumberAnswer::Is(count)
 }
 
 // The leaves in turn, each where the one before it ended; then that the last root is full.

@@ -1,13 +1,13 @@
 // Lines: the upright part of a prism. Each contract is one of the ten calls of `tree`, at this shape; `specs/Elements.antt` says
 // what a line is.
 use paper::FamilyAnswer;
+use paper::NumberAnswer;
 use paper::OrderAnswer;
-use paper::PositionAnswer;
 ghost use mathlib.Core.Path.{_≡_};
 ghost use Prim.Native.Nat.{_<_};
 ghost use lib.Dec.{eqb};
 ghost use lib.ListN.{length};
-ghost use Rattle.paper.specs.Readings.{positionOf, familyOf, orderOf};
+ghost use Rattle.paper.specs.Readings.{valueOf, familyOf, orderOf};
 ghost use Rattle.tree.specs.Calls;
 ghost use Rattle.line.specs.Elements.{line, elementOf, elements};
 
@@ -47,14 +47,14 @@ impl Line {
     }
 
     // The position of an element. Refused: 1, 2.
-    pub fn position(self) -> PositionAnswer
-        ensures { λ r. ⌜ positionOf r ≡ Calls.position line self ⌝ }
+    pub fn position(self) -> NumberAnswer
+        ensures { λ r. ⌜ valueOf r ≡ Calls.position line self ⌝ }
     {
         let fault = self.fault();
         if fault != 0 {
-            return PositionAnswer::Refused(fault, 0);
+            return NumberAnswer::Refused(fault, 0);
         }
-        PositionAnswer::Is(self.rank())
+        NumberAnswer::Is(self.rank())
     }
 
     // The element that this one is a child of. Refused: 1, 2, 6.

@@ -1,25 +1,25 @@
 -- Document 01, "The right form for each place": "For each answer that is an enum, a definition gives this paper's number and
 -- values for each of the enum's cases, and the promises use that definition."
 --
---   positionOf, familyOf, orderOf   the outcome that a PositionAnswer, a FamilyAnswer, an OrderAnswer stands for
+--   valueOf, familyOf, orderOf      the outcome that a NumberAnswer, a FamilyAnswer, an OrderAnswer stands for
 --   checksOf                        the outcome that a Fault stands for: number 0 is none
 --
 -- Assumes nothing.
 use mathlib.Core.Bool.{Bool, not}
 use Prim.Native.Nat.{ℕ}
 use lib.Dec.{eqb}
-use Rattle.paper.specs.declared.PositionAnswer.{PositionAnswer}
+use Rattle.paper.specs.declared.NumberAnswer.{NumberAnswer}
 use Rattle.paper.specs.declared.FamilyAnswer.{FamilyAnswer}
 use Rattle.paper.specs.declared.OrderAnswer.{OrderAnswer}
 use Rattle.paper.specs.declared.Fault.{Fault}
 use Rattle.paper.specs.Outcome.{Outcome, accepted, refused, passed, refuse-when-at, Order, less, same, greater}
-use Rattle.paper.specs.declared.PositionAnswer.the-variants as position
+use Rattle.paper.specs.declared.NumberAnswer.the-variants as number
 use Rattle.paper.specs.declared.FamilyAnswer.the-variants as family
 use Rattle.paper.specs.declared.OrderAnswer.the-variants as order
 
-abbrev pub positionOf : PositionAnswer → Outcome ℕ
-positionOf (position.Is p) = accepted p
-positionOf (position.Refused number place) = refused number place
+abbrev pub valueOf : NumberAnswer → Outcome ℕ
+valueOf (number.Is p) = accepted p
+valueOf (number.Refused fault place) = refused fault place
 
 abbrev pub familyOf : FamilyAnswer → Outcome Bool
 familyOf (family.Is yes-or-no) = accepted yes-or-no

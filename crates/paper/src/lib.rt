@@ -1,8 +1,8 @@
 // The answers that several calls share. Each is the call's value, or the refusal's number and place;
 // `specs/Readings.antt` says what document 01 calls each case.
 
-// The position of an element.
-pub enum PositionAnswer {
+// A number: a position, or how many.
+pub enum NumberAnswer {
     Is(u64),
     Refused(u8, u64),
 }

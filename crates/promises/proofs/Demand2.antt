@@ -23,10 +23,10 @@ use Rattle.index.proofs.Rank.{line-ranked, triangle-ranked, prism-ranked}
 use Rattle.line.specs.declared.LineAnswer.{LineAnswer}
 use Rattle.triangle.specs.declared.TriangleAnswer.{TriangleAnswer}
 use Rattle.prism.specs.declared.PrismAnswer.{PrismAnswer}
-use Rattle.paper.specs.declared.PositionAnswer.{PositionAnswer}
+use Rattle.paper.specs.declared.NumberAnswer.{NumberAnswer}
 use Rattle.paper.specs.declared.FamilyAnswer.{FamilyAnswer}
 use Rattle.paper.specs.declared.OrderAnswer.{OrderAnswer}
-use Rattle.paper.specs.Readings.{positionOf, familyOf, orderOf}
+use Rattle.paper.specs.Readings.{valueOf, familyOf, orderOf}
 use Rattle.line.proofs.Laws as line-laws
 use Rattle.triangle.proofs.Laws as triangle-laws
 use Rattle.prism.proofs.Laws as prism-laws
@@ -36,7 +36,7 @@ use Rattle.prism.specs.Points as prism-points
 use Rattle.line.specs.declared.LineAnswer.the-variants as line-answer
 use Rattle.triangle.specs.declared.TriangleAnswer.the-variants as triangle-answer
 use Rattle.prism.specs.declared.PrismAnswer.the-variants as prism-answer
-use Rattle.paper.specs.declared.PositionAnswer.the-variants as position-answer
+use Rattle.paper.specs.declared.NumberAnswer.the-variants as position-answer
 use Rattle.paper.specs.declared.FamilyAnswer.the-variants as family-answer
 use Rattle.paper.specs.declared.OrderAnswer.the-variants as order-answer
 use Rattle.line.specs.Elements as lines
@@ -87,10 +87,10 @@ prism-elements = determined-by prisms.elementOf (answer prism-answer.Is prism-an
     undo (prism-answer.Is e) = refl
     undo (prism-answer.Refused n p) = refl
 
-position-answers : Determined positionOf
-position-answers = determined-by positionOf (answer position-answer.Is position-answer.Refused) undo
+position-answers : Determined valueOf
+position-answers = determined-by valueOf (answer position-answer.Is position-answer.Refused) undo
   where
-    undo : (r : PositionAnswer) → answer position-answer.Is position-answer.Refused (positionOf r) ≡ r
+    undo : (r : NumberAnswer) → answer position-answer.Is position-answer.Refused (valueOf r) ≡ r
     undo (position-answer.Is p) = refl
     undo (position-answer.Refused n p) = refl
 

@@ -1,12 +1,12 @@
 // Triangles: the ground plan of a prism. Each contract is one of the ten calls of `tree`, at this shape; `specs/Elements.antt`
 // says what a triangle is.
 use paper::FamilyAnswer;
+use paper::NumberAnswer;
 use paper::OrderAnswer;
-use paper::PositionAnswer;
 ghost use mathlib.Core.Path.{_≡_};
 ghost use mathlib.Core.Bool.{not};
 ghost use Prim.Native.Nat.{_<_};
-ghost use Rattle.paper.specs.Readings.{positionOf, familyOf, orderOf};
+ghost use Rattle.paper.specs.Readings.{valueOf, familyOf, orderOf};
 ghost use Rattle.tree.specs.Calls;
 ghost use Rattle.triangle.specs.Elements.{triangle, elementOf, equalColumns, elements, insideRoot};
 
@@ -57,14 +57,14 @@ impl Triangle {
     }
 
     // The position of an element. Refused: 1, 2, 3, 4.
-    pub fn position(self) -> PositionAnswer
-        ensures { λ r. ⌜ positionOf r ≡ Calls.position triangle self ⌝ }
+    pub fn position(self) -> NumberAnswer
+        ensures { λ r. ⌜ valueOf r ≡ Calls.position triangle self ⌝ }
     {
         let fault = self.fault();
         if fault != 0 {
-            return PositionAnswer::Refused(fault, 0);
+            return NumberAnswer::Refused(fault, 0);
         }
-        PositionAnswer::Is(self.rank())
+        NumberAnswer::Is(self.rank())
     }
 
     // The element that this one is a child of. Refused: 1, 2, 3, 4, 6.

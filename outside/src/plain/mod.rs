@@ -1,4 +1,4 @@
-//! The thirty calls once more, as a C programmer would write them: constant tables and a loop over the levels.
+//! The calls once more, as a C programmer would write them: constant tables, a loop over the levels, one over a list.
 //!
 //! Written from the rules alone and not from the proved source, so that the tests hear a second opinion. The calls
 //! take and return what the C interface does, by the same convention, so that the benchmark compares like with like.
@@ -6,6 +6,7 @@
 use crate::{Line, Prism, Triangle};
 
 pub mod line;
+pub mod list;
 pub mod prism;
 pub mod triangle;
 

@@ -9,6 +9,9 @@ use std::hint::black_box;
 
 use gwerniloc::{plain, Line, Prism, Refusal, Triangle};
 
+pub mod leaves;
+pub mod random;
+
 /// The answers of the proved library and of the plain code, in this order.
 pub type Both<T> = [Result<T, Refusal>; 2];
 

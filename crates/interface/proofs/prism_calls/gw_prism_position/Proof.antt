@@ -8,11 +8,11 @@ use Rattle.interface.proofs.prism_calls.gw_prism_position.Tie as tie
 position-requires : tie.Need-position-requires
 position-requires c κs = search needs
 
-of-position-requires : tie.Need-of-position-requires
-of-position-requires c κs = search needs
+of-number-requires : tie.Need-of-number-requires
+of-number-requires c κs = search needs
 
 returns : tie.Need-returns
-returns c = c .of-position .ensures ∙ ap numberResult (c .before .position .ensures)
+returns c = c .of-number .ensures ∙ ap numberResult (c .before .position .ensures)
 
 pub gw-prism-position-spec : {M : Type 1} → statement M
-gw-prism-position-spec = tie.close (tie.spec position-requires of-position-requires returns)
+gw-prism-position-spec = tie.close (tie.spec position-requires of-number-requires returns)
