@@ -19,9 +19,21 @@ fn spoil(r: &mut Random, fault: u64, roots: &mut u16, leaves: &mut Leaves) -> Op
         1 => n - 1,
         _ => r.below(n as u64) as usize,
     };
-    let (root, level, position) = leaves.get(i);
-    let limit = positions(level);
     let (number, place) = match fault {
+        0..=6 => spoil_list(r, fault, *roots, leaves, i)?,
+        7..=13 => spoil_leaf(r, fault, *roots, leaves, i)?,
+        _ => spoil_roots(r, fault, roots, leaves),
+    };
+    if leaves.len() > MOST_LEAVES {
+        return Some(Refusal { number: 11, place: 0 });
+    }
+    Some(Refusal { number, place: place as u64 })
+}
+
+/// Leaves too many, too few or in another order, the one at `i` among them.
+fn spoil_list(r: &mut Random, fault: u64, roots: u16, leaves: &mut Leaves, i: usize) -> Option<(u8, usize)> {
+    let n = leaves.len();
+    Some(match fault {
         // Cut.
         0 if n > 1 => {
             let length = 1 + r.below(n as u64 - 1) as usize;
@@ -43,64 +55,80 @@ fn spoil(r: &mut Random, fault: u64, roots: &mut u16, leaves: &mut Leaves) -> Op
             leaves.swap(i, i + 1);
             (12, i)
         }
-        // Moved to another root.
-        4 => {
-            let other = r.pick(&[root.wrapping_add(1), root.wrapping_sub(1), *roots, u16::MAX, root ^ 256]);
-            leaves.root[i] = other;
-            (12, i)
-        }
-        // Another level: it still starts there if it starts the root.
-        5 => {
-            let other = (level + 1 + r.below(HIGHEST_LEVEL as u64) as u8) % (HIGHEST_LEVEL + 1);
-            leaves.level[i] = other;
-            (if position < positions(other) { 12 } else { 5 }, if position == 0 { i + 1 } else { i })
-        }
-        // A level too high.
-        6 => {
-            leaves.level[i] = r.pick(&[22, 22, 23, 43, 64, 85, 128, 255, 255]);
-            (1, i)
-        }
-        // Another position of the level.
-        7 if limit > 1 => {
-            let any = 1 + r.below(limit - 1);
-            let step = r.pick(&[1, limit - 1, limit / 2, limit / 8, any]);
-            leaves.position[i] = (position + step) % limit;
-            (12, i)
-        }
-        // A position too high: also one that the shift to smallest cells would make right again.
-        8 => {
-            leaves.position[i] = r.pick(&[limit, limit, limit + position, 1 << 63 | position, u64::MAX, u64::MAX]);
-            (5, i)
-        }
-        // A child or the parent in its place.
-        9 if level < HIGHEST_LEVEL => {
-            let child = r.below(8);
-            (leaves.level[i], leaves.position[i]) = (level + 1, 8 * position + child);
-            (12, if child == 0 { i + 1 } else { i })
-        }
-        10 if level > 0 => {
-            (leaves.level[i], leaves.position[i]) = (level - 1, position / 8);
-            (12, if position % 8 == 0 { i + 1 } else { i })
-        }
         // A leaf after the last.
-        11 => {
-            let (extra, number) =
-                r.pick(&[((*roots, 0, 0), 12), ((0, 0, 0), 12), ((0, 22, 0), 1), ((*roots, 2, 64), 5)]);
+        4 => {
+            let (extra, number) = r.pick(&[((roots, 0, 0), 12), ((0, 0, 0), 12), ((0, 22, 0), 1), ((roots, 2, 64), 5)]);
             leaves.push(extra);
             (number, n)
         }
         // Columns of unequal length.
-        12 => {
+        5 => {
             let mut lengths = [n; 3];
             lengths[r.below(3) as usize] = r.pick(&[0, n - 1, n + 1, n / 2, 2 * n]);
             leaves.resize(lengths);
             (11, 0)
         }
         // No leaf.
-        13 => {
+        6 => {
             leaves.resize([0; 3]);
             (11, 0)
         }
+        _ => return None,
+    })
+}
+
+/// The leaf at `i`: its root, level or position.
+fn spoil_leaf(r: &mut Random, fault: u64, roots: u16, leaves: &mut Leaves, i: usize) -> Option<(u8, usize)> {
+    let (root, level, position) = leaves.get(i);
+    let limit = positions(level);
+    Some(match fault {
+        // Moved to another root.
+        7 => {
+            let other = r.pick(&[root.wrapping_add(1), root.wrapping_sub(1), roots, u16::MAX, root ^ 256]);
+            leaves.root[i] = other;
+            (12, i)
+        }
+        // Another level: it still starts there if it starts the root.
+        8 => {
+            let other = (level + 1 + r.below(HIGHEST_LEVEL as u64) as u8) % (HIGHEST_LEVEL + 1);
+            leaves.level[i] = other;
+            (if position < positions(other) { 12 } else { 5 }, if position == 0 { i + 1 } else { i })
+        }
+        // A level too high.
+        9 => {
+            leaves.level[i] = r.pick(&[22, 22, 23, 43, 64, 85, 128, 255, 255]);
+            (1, i)
+        }
+        // Another position of the level.
+        10 if limit > 1 => {
+            let any = 1 + r.below(limit - 1);
+            let step = r.pick(&[1, limit - 1, limit / 2, limit / 8, any]);
+            leaves.position[i] = (position + step) % limit;
+            (12, i)
+        }
+        // A position too high: also one that the shift to smallest cells would make right again.
+        11 => {
+            leaves.position[i] = r.pick(&[limit, limit, limit + position, 1 << 63 | position, u64::MAX, u64::MAX]);
+            (5, i)
+        }
+        // A child or the parent in its place.
+        12 if level < HIGHEST_LEVEL => {
+            let child = r.below(8);
+            (leaves.level[i], leaves.position[i]) = (level + 1, 8 * position + child);
+            (12, if child == 0 { i + 1 } else { i })
+        }
+        13 if level > 0 => {
+            (leaves.level[i], leaves.position[i]) = (level - 1, position / 8);
+            (12, if position % 8 == 0 { i + 1 } else { i })
+        }
+        _ => return None,
+    })
+}
+
+/// The number of roots.
+fn spoil_roots(r: &mut Random, fault: u64, roots: &mut u16, leaves: &Leaves) -> (u8, usize) {
+    let n = leaves.len();
+    match fault {
         // Roots wrong by one.
         14 => {
             let (more, all) = (r.below(2) == 1, *roots);
@@ -112,7 +140,7 @@ fn spoil(r: &mut Random, fault: u64, roots: &mut u16, leaves: &mut Leaves) -> Op
             }
         }
         // Roots at their limits.
-        15 => {
+        _ => {
             *roots = r.pick(&[0, MOST_ROOTS, MOST_ROOTS + 1, u16::MAX]);
             if *roots == MOST_ROOTS {
                 (12, n)
@@ -120,12 +148,7 @@ fn spoil(r: &mut Random, fault: u64, roots: &mut u16, leaves: &mut Leaves) -> Op
                 (17, 0)
             }
         }
-        _ => return None,
-    };
-    if leaves.len() > MOST_LEAVES {
-        return Some(Refusal { number: 11, place: 0 });
     }
-    Some(Refusal { number, place: place as u64 })
 }
 
 /// How often a list was accepted (at 0) and how often refused with each number.
