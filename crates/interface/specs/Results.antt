@@ -4,7 +4,7 @@
 --                  column has as many entries)
 --   valueOr z o    the value, z on a refusal
 --   checkResult    of a call with no value: the word alone
---   lineResult, triangleResult, prismResult, numberResult, familyResult, orderResult
+--   lineResult, triangleResult, prismResult, numberResult, truthResult, orderResult
 --                  what the call with the outcome o returns: on a refusal every field of the value is 0
 --   UniformResult  what a uniform start returns, and what its three columns hold afterwards
 --   signOf o       less is -1, same 0, greater 1
@@ -52,8 +52,8 @@ abbrev pub oneIf : Bool → ℕ
 oneIf true = 1
 oneIf false = 0
 
-unfoldable pub familyResult : Outcome Bool → NumberResult
-familyResult o = record { refusal = word o; value = oneIf (valueOr false o) }
+unfoldable pub truthResult : Outcome Bool → NumberResult
+truthResult o = record { refusal = word o; value = oneIf (valueOr false o) }
 
 abbrev pub signOf : Order → ℤ
 signOf less = negsuc 0

@@ -9,7 +9,7 @@ ghost use lib.Dec.{eqb};
 ghost use lib.ListN.{length};
 ghost use Rattle.tree.specs.Calls;
 ghost use Rattle.line.specs.Elements.{line, elements};
-ghost use Rattle.interface.specs.Results.{lineResult, numberResult, familyResult, orderResult};
+ghost use Rattle.interface.specs.Results.{lineResult, numberResult, truthResult, orderResult};
 
 #[no_mangle]
 pub extern "C" fn gw_line_at(level: u8, position: u64) -> LineResult
@@ -76,7 +76,7 @@ pub extern "C" fn gw_line_compare(e: Line, f: Line) -> OrderResult
 
 #[no_mangle]
 pub extern "C" fn gw_line_family(levels: &[u8], xs: &[u32]) -> NumberResult
-    ensures { λ r. ⌜ r ≡ familyResult (Calls.family line (eqb (length (now (levels .entry))) (length (now (xs .entry)))) (elements (now (levels .entry)) (now (xs .entry)))) ⌝ }
+    ensures { λ r. ⌜ r ≡ truthResult (Calls.family line (eqb (length (now (levels .entry))) (length (now (xs .entry)))) (elements (now (levels .entry)) (now (xs .entry)))) ⌝ }
 {
-    results::of_family(Line::family(levels, xs))
+    results::of_truth(Line::family(levels, xs))
 }

@@ -7,7 +7,7 @@ use prism::Prism;
 ghost use mathlib.Core.Path.{_≡_};
 ghost use Rattle.tree.specs.Calls;
 ghost use Rattle.prism.specs.Elements.{prism, equalColumns, elements};
-ghost use Rattle.interface.specs.Results.{prismResult, numberResult, familyResult, orderResult};
+ghost use Rattle.interface.specs.Results.{prismResult, numberResult, truthResult, orderResult};
 
 #[no_mangle]
 pub extern "C" fn gw_prism_at(level: u8, position: u64) -> PrismResult
@@ -80,7 +80,7 @@ pub extern "C" fn gw_prism_family(
     zs: &[u32],
     kinds: &[u8],
 ) -> NumberResult
-    ensures { λ r. ⌜ r ≡ familyResult (Calls.family prism (equalColumns (now (levels .entry)) (now (xs .entry)) (now (ys .entry)) (now (zs .entry)) (now (kinds .entry))) (elements (now (levels .entry)) (now (xs .entry)) (now (ys .entry)) (now (zs .entry)) (now (kinds .entry)))) ⌝ }
+    ensures { λ r. ⌜ r ≡ truthResult (Calls.family prism (equalColumns (now (levels .entry)) (now (xs .entry)) (now (ys .entry)) (now (zs .entry)) (now (kinds .entry))) (elements (now (levels .entry)) (now (xs .entry)) (now (ys .entry)) (now (zs .entry)) (now (kinds .entry)))) ⌝ }
 {
-    results::of_family(Prism::family(levels, xs, ys, zs, kinds))
+    results::of_truth(Prism::family(levels, xs, ys, zs, kinds))
 }

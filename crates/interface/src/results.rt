@@ -4,24 +4,23 @@ use crate::NumberResult;
 use crate::OrderResult;
 use crate::PrismResult;
 use crate::TriangleResult;
-use leaves::ListAnswer;
 use line::Line;
 use line::LineAnswer;
-use paper::FamilyAnswer;
 use paper::NumberAnswer;
 use paper::OrderAnswer;
+use paper::PassAnswer;
+use paper::TruthAnswer;
 use prism::Prism;
 use prism::PrismAnswer;
 use triangle::Triangle;
 use triangle::TriangleAnswer;
 ghost use mathlib.Core.Path.{_≡_};
 ghost use Prim.Native.Nat.{_+_, _*_, _%_, _^_};
-ghost use Rattle.paper.specs.Readings.{valueOf, familyOf, orderOf};
+ghost use Rattle.paper.specs.Readings.{valueOf, truthOf, orderOf, passOf};
 ghost use Rattle.line.specs.Elements as lines;
 ghost use Rattle.triangle.specs.Elements as triangles;
 ghost use Rattle.prism.specs.Elements as prisms;
-ghost use Rattle.interface.specs.Results.{lineResult, triangleResult, prismResult, numberResult, familyResult, orderResult, checkResult};
-ghost use Rattle.leaves.specs.Readings.{listOf};
+ghost use Rattle.interface.specs.Results.{lineResult, triangleResult, prismResult, numberResult, truthResult, orderResult, checkResult};
 
 // The word of a refusal.
 fn word(number: u8, place: u64) -> u64
@@ -101,11 +100,11 @@ pub(crate) fn of_number(a: NumberAnswer) -> NumberResult
     }
 }
 
-pub(crate) fn of_family(a: FamilyAnswer) -> NumberResult
-    ensures { λ r. ⌜ r ≡ familyResult (familyOf a) ⌝ }
+pub(crate) fn of_truth(a: TruthAnswer) -> NumberResult
+    ensures { λ r. ⌜ r ≡ truthResult (truthOf a) ⌝ }
 {
     match a {
-        FamilyAnswer::Is(yes) => {
+        TruthAnswer::Is(yes) => {
             if yes {
                 return NumberResult {
                     refusal: 0,
@@ -117,7 +116,7 @@ pub(crate) fn of_family(a: FamilyAnswer) -> NumberResult
                 value: 0,
             }
         }
-        FamilyAnswer::Refused(number, place) => NumberResult {
+        TruthAnswer::Refused(number, place) => NumberResult {
             refusal: word(number, place),
             value: 0,
         },
@@ -147,11 +146,11 @@ pub(crate) fn of_order(a: OrderAnswer) -> OrderResult
     }
 }
 
-pub(crate) fn of_list(a: ListAnswer) -> u64
-    ensures { λ r. ⌜ r ≡ checkResult (listOf a) ⌝ }
+pub(crate) fn of_pass(a: PassAnswer) -> u64
+    ensures { λ r. ⌜ r ≡ checkResult (passOf a) ⌝ }
 {
     match a {
-        ListAnswer::Valid => 0,
-        ListAnswer::Refused(number, place) => word(number, place),
+        PassAnswer::Passed => 0,
+        PassAnswer::Refused(number, place) => word(number, place),
     }
 }

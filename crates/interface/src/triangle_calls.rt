@@ -7,7 +7,7 @@ use triangle::Triangle;
 ghost use mathlib.Core.Path.{_≡_};
 ghost use Rattle.tree.specs.Calls;
 ghost use Rattle.triangle.specs.Elements.{triangle, equalColumns, elements};
-ghost use Rattle.interface.specs.Results.{triangleResult, numberResult, familyResult, orderResult};
+ghost use Rattle.interface.specs.Results.{triangleResult, numberResult, truthResult, orderResult};
 
 #[no_mangle]
 pub extern "C" fn gw_triangle_at(level: u8, position: u64) -> TriangleResult
@@ -79,7 +79,7 @@ pub extern "C" fn gw_triangle_family(
     ys: &[u32],
     kinds: &[u8],
 ) -> NumberResult
-    ensures { λ r. ⌜ r ≡ familyResult (Calls.family triangle (equalColumns (now (levels .entry)) (now (xs .entry)) (now (ys .entry)) (now (kinds .entry))) (elements (now (levels .entry)) (now (xs .entry)) (now (ys .entry)) (now (kinds .entry)))) ⌝ }
+    ensures { λ r. ⌜ r ≡ truthResult (Calls.family triangle (equalColumns (now (levels .entry)) (now (xs .entry)) (now (ys .entry)) (now (kinds .entry))) (elements (now (levels .entry)) (now (xs .entry)) (now (ys .entry)) (now (kinds .entry)))) ⌝ }
 {
-    results::of_family(Triangle::family(levels, xs, ys, kinds))
+    results::of_truth(Triangle::family(levels, xs, ys, kinds))
 }

@@ -1,4 +1,5 @@
 pub mod Check
+pub mod Listed
 pub mod Span
 pub mod Starting
 pub mod UniformValid

@@ -9,7 +9,8 @@
 --   outOfRange k     "outside 1 to 4,096"
 --   leafFault K c v  the first of 1, 5, 12 that the leaf v has where the list has come to c
 --   walked K i c vs o   the leaves vs from number i on, where the list has come to c; then o
---   listed           a list call: the tests of its roots, its columns and its leaves; then o
+--   listed           a list call: the tests of its numbers, its columns and its leaves; then o. inRange: the call's other number (shares)
+--                    is in range; fitting: its other columns (marks or weights, lent columns) have the lengths that they must have
 --   uniform          the call of a uniform start: how many leaves it has
 --   Columns          what stands in three lent columns after a call with the outcome o, whose result are the leaves vs
 --
@@ -54,10 +55,10 @@ module _ (n L : ℕ) where
   walked K i c (v ∷ vs) rest =
       refuse-when-at (not (eqb (leafFault K c v) 0)) (leafFault K c v) i (walked K (suc i) (endOf n L v) vs rest)
 
-  abbrev pub listed : {A : Type 0} → ℕ → List ℕ → List ℕ → List ℕ → Outcome A → Outcome A
-  listed K roots levels positions rest =
-      refuse-when (outOfRange K) 17
-      (refuse-when (not (equalColumns roots levels positions)) 11
+  abbrev pub listed : {A : Type 0} → ℕ → Bool → Bool → List ℕ → List ℕ → List ℕ → Outcome A → Outcome A
+  listed K inRange fitting roots levels positions rest =
+      refuse-when (outOfRange K || not inRange) 17
+      (refuse-when (not (equalColumns roots levels positions && fitting)) 11
       (refuse-when (eqb (length roots) 0 || ltb limit (length roots)) 11
       (walked K 0 (place 0 0) (leaves roots levels positions) rest)))
 

@@ -2,24 +2,20 @@
 // the engine behind them takes the bits of a child number and the highest level as ordinary numbers.
 use paper::Fault;
 use paper::NumberAnswer;
+use paper::PassAnswer;
 ghost use mathlib.Core.Path.{_≡_};
+ghost use mathlib.Core.Bool.{true, _&&_};
 ghost use Prim.Native.Nat.{_*_, _^_, _≤_, _<_};
+ghost use lib.Dec.{eqb};
 ghost use lib.ListN.{length};
 ghost use Rattle.paper.specs.Outcome.{passed};
-ghost use Rattle.paper.specs.Readings.{checksOf};
+ghost use Rattle.paper.specs.Readings.{checksOf, passOf};
 ghost use Rattle.leaves.specs.Leaves.{leaves, place};
-ghost use Rattle.leaves.specs.Calls.{walked, listed};
-ghost use Rattle.leaves.specs.Readings.{listOf};
+ghost use Rattle.leaves.specs.Calls.{outOfRange, walked, listed};
 ghost use Rattle.leaves.specs.Start.{Started};
 
 mod start;
 mod step;
-
-// Whether a list is valid, or the refusal's number and place.
-pub enum ListAnswer {
-    Valid,
-    Refused(u8, u64),
-}
 
 // Where a list has come to: a root, and a smallest cell of it.
 pub struct Cursor {
@@ -27,33 +23,47 @@ pub struct Cursor {
     pub cell: u64,
 }
 
-// Whether the columns are a valid list of the roots. Refused: 17, 11, then 1, 5, 12 at each leaf.
-pub fn check_list(k: u16, roots: &[u16], levels: &[u8], positions: &[u64]) -> ListAnswer
-    ensures { λ r. ⌜ listOf r ≡ listed 8 21 k (now (roots .entry)) (now (levels .entry)) (now (positions .entry)) passed ⌝ }
+// Whether a number of roots or of shares is outside 1 to 4,096.
+pub fn out_of_range(k: u16) -> bool
+    ensures { λ r. ⌜ r ≡ outOfRange k ⌝ }
 {
     if k == 0 {
-        return ListAnswer::Refused(17, 0);
+        return true;
     }
-    if 4096 < k {
-        return ListAnswer::Refused(17, 0);
+    4096 < k
+}
+
+// Whether the three columns of a list are equally long, by their lengths.
+pub fn equal_lengths(roots: usize, levels: usize, positions: usize) -> bool
+    ensures { λ r. ⌜ r ≡ (eqb roots levels && eqb roots positions) ⌝ }
+{
+    if roots != levels {
+        return false;
     }
-    if roots.len() != levels.len() {
-        return ListAnswer::Refused(11, 0);
+    roots == positions
+}
+
+// Whether the columns are a valid list of the roots. Refused: 17, 11, then 1, 5, 12 at each leaf.
+pub fn check_list(k: u16, roots: &[u16], levels: &[u8], positions: &[u64]) -> PassAnswer
+    ensures { λ r. ⌜ passOf r ≡ listed 8 21 k true true (now (roots .entry)) (now (levels .entry)) (now (positions .entry)) passed ⌝ }
+{
+    if out_of_range(k) {
+        return PassAnswer::Refused(17, 0);
     }
-    if roots.len() != positions.len() {
-        return ListAnswer::Refused(11, 0);
+    if !equal_lengths(roots.len(), levels.len(), positions.len()) {
+        return PassAnswer::Refused(11, 0);
     }
     if roots.len() == 0 {
-        return ListAnswer::Refused(11, 0);
+        return PassAnswer::Refused(11, 0);
     }
     if 1048576 < roots.len() {
-        return ListAnswer::Refused(11, 0);
+        return PassAnswer::Refused(11, 0);
     }
     let fault = walk(3, 21, k, roots, levels, positions);
     if fault.number != 0 {
-        return ListAnswer::Refused(fault.number, fault.place);
+        return PassAnswer::Refused(fault.number, fault.place);
     }
-    ListAnswer::Valid
+    PassAnswer::Passed
 }
 
 // The leaves of some roots, all at one level, in order. Refused: 17, 11, 1, 15, 14.
@@ -66,16 +76,10 @@ pub fn uniform(
 ) -> NumberAnswer
     ensures { λ r. ⌜ Started k level r (now (roots .entry)) (now (levels .entry)) (now (positions .entry)) (now (roots .exit)) (now (levels .exit)) (now (positions .exit)) ⌝ }
 {
-    if k == 0 {
+    if out_of_range(k) {
         return NumberAnswer::Refused(17, 0);
     }
-    if 4096 < k {
-        return NumberAnswer::Refused(17, 0);
-    }
-    if roots.len() != levels.len() {
-        return NumberAnswer::Refused(11, 0);
-    }
-    if roots.len() != positions.len() {
+    if !equal_lengths(roots.len(), levels.len(), positions.len()) {
         return NumberAnswer::Refused(11, 0);
     }
     if 21 < level {

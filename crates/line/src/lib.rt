@@ -1,13 +1,13 @@
 // Lines: the upright part of a prism. Each contract is one of the ten calls of `tree`, at this shape; `specs/Elements.antt` says
 // what a line is.
-use paper::FamilyAnswer;
 use paper::NumberAnswer;
 use paper::OrderAnswer;
+use paper::TruthAnswer;
 ghost use mathlib.Core.Path.{_≡_};
 ghost use Prim.Native.Nat.{_<_};
 ghost use lib.Dec.{eqb};
 ghost use lib.ListN.{length};
-ghost use Rattle.paper.specs.Readings.{valueOf, familyOf, orderOf};
+ghost use Rattle.paper.specs.Readings.{valueOf, truthOf, orderOf};
 ghost use Rattle.tree.specs.Calls;
 ghost use Rattle.line.specs.Elements.{line, elementOf, elements};
 
@@ -169,16 +169,16 @@ impl Line {
 
     // Whether the elements of the columns are all children of one parent, in order. Refused: 11, then 1, 2 at each element's
     // index.
-    pub fn family(levels: &[u8], xs: &[u32]) -> FamilyAnswer
-        ensures { λ r. ⌜ familyOf r ≡ Calls.family line (eqb (length (now (levels .entry))) (length (now (xs .entry)))) (elements (now (levels .entry)) (now (xs .entry))) ⌝ }
+    pub fn family(levels: &[u8], xs: &[u32]) -> TruthAnswer
+        ensures { λ r. ⌜ truthOf r ≡ Calls.family line (eqb (length (now (levels .entry))) (length (now (xs .entry)))) (elements (now (levels .entry)) (now (xs .entry))) ⌝ }
     {
         if levels.len() != xs.len() {
-            return FamilyAnswer::Refused(11, 0);
+            return TruthAnswer::Refused(11, 0);
         }
         let fault = family::first_fault(levels, xs);
         if fault.number != 0 {
-            return FamilyAnswer::Refused(fault.number, fault.place);
+            return TruthAnswer::Refused(fault.number, fault.place);
         }
-        FamilyAnswer::Is(family::are_siblings(levels, xs))
+        TruthAnswer::Is(family::are_siblings(levels, xs))
     }
 }

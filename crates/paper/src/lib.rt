@@ -7,9 +7,15 @@ pub enum NumberAnswer {
     Refused(u8, u64),
 }
 
-// Whether the given elements are a family.
-pub enum FamilyAnswer {
+// Yes or no: whether elements are a family, whether a list is balanced.
+pub enum TruthAnswer {
     Is(bool),
+    Refused(u8, u64),
+}
+
+// That the call passed its tests, with no value beside what it wrote.
+pub enum PassAnswer {
+    Passed,
     Refused(u8, u64),
 }
 

@@ -24,9 +24,9 @@ use Rattle.line.specs.declared.LineAnswer.{LineAnswer}
 use Rattle.triangle.specs.declared.TriangleAnswer.{TriangleAnswer}
 use Rattle.prism.specs.declared.PrismAnswer.{PrismAnswer}
 use Rattle.paper.specs.declared.NumberAnswer.{NumberAnswer}
-use Rattle.paper.specs.declared.FamilyAnswer.{FamilyAnswer}
+use Rattle.paper.specs.declared.TruthAnswer.{TruthAnswer}
 use Rattle.paper.specs.declared.OrderAnswer.{OrderAnswer}
-use Rattle.paper.specs.Readings.{valueOf, familyOf, orderOf}
+use Rattle.paper.specs.Readings.{valueOf, truthOf, orderOf}
 use Rattle.line.proofs.Laws as line-laws
 use Rattle.triangle.proofs.Laws as triangle-laws
 use Rattle.prism.proofs.Laws as prism-laws
@@ -37,7 +37,7 @@ use Rattle.line.specs.declared.LineAnswer.the-variants as line-answer
 use Rattle.triangle.specs.declared.TriangleAnswer.the-variants as triangle-answer
 use Rattle.prism.specs.declared.PrismAnswer.the-variants as prism-answer
 use Rattle.paper.specs.declared.NumberAnswer.the-variants as position-answer
-use Rattle.paper.specs.declared.FamilyAnswer.the-variants as family-answer
+use Rattle.paper.specs.declared.TruthAnswer.the-variants as family-answer
 use Rattle.paper.specs.declared.OrderAnswer.the-variants as order-answer
 use Rattle.line.specs.Elements as lines
 use Rattle.triangle.specs.Elements as triangles
@@ -94,10 +94,10 @@ position-answers = determined-by valueOf (answer position-answer.Is position-ans
     undo (position-answer.Is p) = refl
     undo (position-answer.Refused n p) = refl
 
-family-answers : Determined familyOf
-family-answers = determined-by familyOf (answer family-answer.Is family-answer.Refused) undo
+family-answers : Determined truthOf
+family-answers = determined-by truthOf (answer family-answer.Is family-answer.Refused) undo
   where
-    undo : (r : FamilyAnswer) → answer family-answer.Is family-answer.Refused (familyOf r) ≡ r
+    undo : (r : TruthAnswer) → answer family-answer.Is family-answer.Refused (truthOf r) ≡ r
     undo (family-answer.Is b) = refl
     undo (family-answer.Refused n p) = refl
 

@@ -9,7 +9,7 @@
 use mathlib.Core.Path.{_≡_}
 use mathlib.Core.List.{List}
 use Prim.Native.Nat.{ℕ}
-use Rattle.paper.specs.Readings.{valueOf, familyOf, orderOf}
+use Rattle.paper.specs.Readings.{valueOf, truthOf, orderOf}
 use Rattle.tree.specs.Shape.{Shape}
 use Rattle.tree.specs.Laws.{Lawful, RoundTrips, Positions, TotalOrder, Families, Faces}
 use Rattle.triangle.specs.Points.{Bey}
@@ -39,7 +39,7 @@ pub record Answers : Type 0 where
   pub triangle-elements : Determined triangles.elementOf
   pub prism-elements : Determined prisms.elementOf
   pub positions : Determined valueOf
-  pub families : Determined familyOf
+  pub families : Determined truthOf
   pub orders : Determined orderOf
 
 pub record OfElements : Type 0 where

@@ -1,12 +1,12 @@
 // Triangles: the ground plan of a prism. Each contract is one of the ten calls of `tree`, at this shape; `specs/Elements.antt`
 // says what a triangle is.
-use paper::FamilyAnswer;
 use paper::NumberAnswer;
 use paper::OrderAnswer;
+use paper::TruthAnswer;
 ghost use mathlib.Core.Path.{_≡_};
 ghost use mathlib.Core.Bool.{not};
 ghost use Prim.Native.Nat.{_<_};
-ghost use Rattle.paper.specs.Readings.{valueOf, familyOf, orderOf};
+ghost use Rattle.paper.specs.Readings.{valueOf, truthOf, orderOf};
 ghost use Rattle.tree.specs.Calls;
 ghost use Rattle.triangle.specs.Elements.{triangle, elementOf, equalColumns, elements, insideRoot};
 
@@ -184,22 +184,22 @@ impl Triangle {
 
     // Whether the elements of the columns are all children of one parent, in order. Refused: 11, then 1, 2, 3, 4 at each element's
     // index.
-    pub fn family(levels: &[u8], xs: &[u32], ys: &[u32], kinds: &[u8]) -> FamilyAnswer
-        ensures { λ r. ⌜ familyOf r ≡ Calls.family triangle (equalColumns (now (levels .entry)) (now (xs .entry)) (now (ys .entry)) (now (kinds .entry))) (elements (now (levels .entry)) (now (xs .entry)) (now (ys .entry)) (now (kinds .entry))) ⌝ }
+    pub fn family(levels: &[u8], xs: &[u32], ys: &[u32], kinds: &[u8]) -> TruthAnswer
+        ensures { λ r. ⌜ truthOf r ≡ Calls.family triangle (equalColumns (now (levels .entry)) (now (xs .entry)) (now (ys .entry)) (now (kinds .entry))) (elements (now (levels .entry)) (now (xs .entry)) (now (ys .entry)) (now (kinds .entry))) ⌝ }
     {
         if levels.len() != xs.len() {
-            return FamilyAnswer::Refused(11, 0);
+            return TruthAnswer::Refused(11, 0);
         }
         if levels.len() != ys.len() {
-            return FamilyAnswer::Refused(11, 0);
+            return TruthAnswer::Refused(11, 0);
         }
         if levels.len() != kinds.len() {
-            return FamilyAnswer::Refused(11, 0);
+            return TruthAnswer::Refused(11, 0);
         }
         let fault = family::first_fault(levels, xs, ys, kinds);
         if fault.number != 0 {
-            return FamilyAnswer::Refused(fault.number, fault.place);
+            return TruthAnswer::Refused(fault.number, fault.place);
         }
-        FamilyAnswer::Is(family::are_siblings(levels, xs, ys, kinds))
+        TruthAnswer::Is(family::are_siblings(levels, xs, ys, kinds))
     }
 }

@@ -1,50 +1,55 @@
 -- `check_list` meets its contract: each way out is one case of the call. Assumes nothing.
 use mathlib.Core.Path.{_∙_, sym}
+use mathlib.Core.Bool.{and-eq-true-iff}
 use native.Mathlib.Omega.{arith}
+use lib.Dec.{eqb}
 use lib.ListN.{length}
-use borrow.Author.Tests.{lt-ltb, le-ltb, eq-eqb, ne-eqb}
+use borrow.Author.Needs.{needs}
+use borrow.Author.Tests.{lt-ltb, le-ltb, eq-eqb, ne-eqb, eqb-true, not-true, not-false}
 use Rattle.paper.specs.Outcome.{passed}
 use Rattle.paper.proofs.Scan.{fault-taken, fault-none}
 use Rattle.leaves.proofs.check_list.Statement.{statement}
 use Rattle.leaves.proofs.check_list.Tie as tie
 
+out-of-range-requires : tie.Need-out-of-range-requires
+out-of-range-requires c κs = search needs
+
 returns : tie.Need-returns
-returns c = simp (eq-eqb (c .before .before .before .before .args .k) 0 (c .if1 .taken))
+returns c = simp (sym (c .before .out-of-range .ensures), (c .if1 .taken))
+
+equal-lengths-requires : tie.Need-equal-lengths-requires
+equal-lengths-requires c κs = search needs
 
 returns-2 : tie.Need-returns-2
-returns-2 c = simp (ne-eqb (c .before .before .before .before .before .args .k) 0 (c .before .if1 .left), lt-ltb 4096 (c .before .before .before .before .before .args .k) (c .if2 .taken))
+returns-2 c = simp (sym (c .before .before .before .out-of-range .ensures), (c .before .before .if1 .left), sym (c .before .equal-lengths .ensures), not-true (c .before .equal-lengths .result) (c .if2 .taken))
 
 returns-3 : tie.Need-returns-3
-returns-3 c = simp (ne-eqb (c .before .before .before .before .before .before .args .k) 0 (c .before .before .if1 .left), le-ltb 4096 (c .before .before .before .before .before .before .args .k) (c .before .if2 .left), ne-eqb (length (c .before .before .before .before .before .before .args .roots .now)) (length (c .before .before .before .before .before .before .args .levels .now)) (c .if3 .taken))
+returns-3 c = simp (sym (c .before .before .before .before .out-of-range .ensures), (c .before .before .before .if1 .left), sym (c .before .before .equal-lengths .ensures), not-false (c .before .before .equal-lengths .result) (c .before .if2 .left), eq-eqb (length (c .before .before .before .before .before .before .before .before .args .roots .now)) 0 (c .if3 .taken))
 
 returns-4 : tie.Need-returns-4
-returns-4 c = simp (ne-eqb (c .before .before .before .before .before .before .before .args .k) 0 (c .before .before .before .if1 .left), le-ltb 4096 (c .before .before .before .before .before .before .before .args .k) (c .before .before .if2 .left), eq-eqb (length (c .before .before .before .before .before .before .before .args .roots .now)) (length (c .before .before .before .before .before .before .before .args .levels .now)) (c .before .if3 .left), ne-eqb (length (c .before .before .before .before .before .before .before .args .roots .now)) (length (c .before .before .before .before .before .before .before .args .positions .now)) (c .if4 .taken))
-
-returns-5 : tie.Need-returns-5
-returns-5 c = simp (ne-eqb (c .before .before .before .before .before .before .before .before .args .k) 0 (c .before .before .before .before .if1 .left), le-ltb 4096 (c .before .before .before .before .before .before .before .before .args .k) (c .before .before .before .if2 .left), eq-eqb (length (c .before .before .before .before .before .before .before .before .args .roots .now)) (length (c .before .before .before .before .before .before .before .before .args .levels .now)) (c .before .before .if3 .left), eq-eqb (length (c .before .before .before .before .before .before .before .before .args .roots .now)) (length (c .before .before .before .before .before .before .before .before .args .positions .now)) (c .before .if4 .left), eq-eqb (length (c .before .before .before .before .before .before .before .before .args .roots .now)) 0 (c .if5 .taken))
-
-returns-6 : tie.Need-returns-6
-returns-6 c = simp (ne-eqb (c .before .before .before .before .before .before .before .before .before .args .k) 0 (c .before .before .before .before .before .if1 .left), le-ltb 4096 (c .before .before .before .before .before .before .before .before .before .args .k) (c .before .before .before .before .if2 .left), eq-eqb (length (c .before .before .before .before .before .before .before .before .before .args .roots .now)) (length (c .before .before .before .before .before .before .before .before .before .args .levels .now)) (c .before .before .before .if3 .left), eq-eqb (length (c .before .before .before .before .before .before .before .before .before .args .roots .now)) (length (c .before .before .before .before .before .before .before .before .before .args .positions .now)) (c .before .before .if4 .left), ne-eqb (length (c .before .before .before .before .before .before .before .before .before .args .roots .now)) 0 (c .before .if5 .left), lt-ltb 1048576 (length (c .before .before .before .before .before .before .before .before .before .args .roots .now)) (c .if6 .taken))
+returns-4 c = simp (sym (c .before .before .before .before .before .out-of-range .ensures), (c .before .before .before .before .if1 .left), sym (c .before .before .before .equal-lengths .ensures), not-false (c .before .before .before .equal-lengths .result) (c .before .before .if2 .left), ne-eqb (length (c .before .before .before .before .before .before .before .before .before .args .roots .now)) 0 (c .before .if3 .left), lt-ltb 1048576 (length (c .before .before .before .before .before .before .before .before .before .args .roots .now)) (c .if4 .taken))
 
 walk-requires : tie.Need-walk-requires
-walk-requires c κs = (omega arith, (omega arith, (c .before .before .before .if3 .left, c .before .before .if4 .left)))
+walk-requires c κs =
+    let equal = and-eq-true-iff (eqb (length (c .before .before .before .before .before .before .before .before .before .args .roots .now)) (length (c .before .before .before .before .before .before .before .before .before .args .levels .now))) (eqb (length (c .before .before .before .before .before .before .before .before .before .args .roots .now)) (length (c .before .before .before .before .before .before .before .before .before .args .positions .now))) .0 (sym (c .before .before .before .equal-lengths .ensures) ∙ not-false (c .before .before .before .equal-lengths .result) (c .before .before .if2 .left)) in
+    (omega arith, (omega arith, (eqb-true (length (c .before .before .before .before .before .before .before .before .before .args .roots .now)) (length (c .before .before .before .before .before .before .before .before .before .args .levels .now)) (equal .0), eqb-true (length (c .before .before .before .before .before .before .before .before .before .args .roots .now)) (length (c .before .before .before .before .before .before .before .before .before .args .positions .now)) (equal .1))))
 
-returns-7 : tie.Need-returns-7
-returns-7 c = simp (ne-eqb (c .before .before .before .before .before .before .before .before .before .before .before .before .args .k) 0 (c .before .before .before .before .before .before .before .before .if1 .left), le-ltb 4096 (c .before .before .before .before .before .before .before .before .before .before .before .before .args .k) (c .before .before .before .before .before .before .before .if2 .left), eq-eqb (length (c .before .before .before .before .before .before .before .before .before .before .before .before .args .roots .now)) (length (c .before .before .before .before .before .before .before .before .before .before .before .before .args .levels .now)) (c .before .before .before .before .before .before .if3 .left), eq-eqb (length (c .before .before .before .before .before .before .before .before .before .before .before .before .args .roots .now)) (length (c .before .before .before .before .before .before .before .before .before .before .before .before .args .positions .now)) (c .before .before .before .before .before .if4 .left), ne-eqb (length (c .before .before .before .before .before .before .before .before .before .before .before .before .args .roots .now)) 0 (c .before .before .before .before .if5 .left), le-ltb 1048576 (length (c .before .before .before .before .before .before .before .before .before .before .before .before .args .roots .now)) (c .before .before .before .if6 .left)) (sym (fault-taken (c .before .before .walk .result .number) (c .before .before .walk .result .place) passed (c .if7 .taken)) ∙ c .before .before .walk .ensures)
+returns-5 : tie.Need-returns-5
+returns-5 c = simp (sym (c .before .before .before .before .before .before .before .before .out-of-range .ensures), (c .before .before .before .before .before .before .before .if1 .left), sym (c .before .before .before .before .before .before .equal-lengths .ensures), not-false (c .before .before .before .before .before .before .equal-lengths .result) (c .before .before .before .before .before .if2 .left), ne-eqb (length (c .before .before .before .before .before .before .before .before .before .before .before .before .args .roots .now)) 0 (c .before .before .before .before .if3 .left), le-ltb 1048576 (length (c .before .before .before .before .before .before .before .before .before .before .before .before .args .roots .now)) (c .before .before .before .if4 .left)) (sym (fault-taken (c .before .before .walk .result .number) (c .before .before .walk .result .place) passed (c .if5 .taken)) ∙ (c .before .before .walk .ensures))
 
-returns-8 : tie.Need-returns-8
-returns-8 c = simp (ne-eqb (c .before .before .before .before .before .before .before .before .before .before .before .before .args .k) 0 (c .before .before .before .before .before .before .before .before .if1 .left), le-ltb 4096 (c .before .before .before .before .before .before .before .before .before .before .before .before .args .k) (c .before .before .before .before .before .before .before .if2 .left), eq-eqb (length (c .before .before .before .before .before .before .before .before .before .before .before .before .args .roots .now)) (length (c .before .before .before .before .before .before .before .before .before .before .before .before .args .levels .now)) (c .before .before .before .before .before .before .if3 .left), eq-eqb (length (c .before .before .before .before .before .before .before .before .before .before .before .before .args .roots .now)) (length (c .before .before .before .before .before .before .before .before .before .before .before .before .args .positions .now)) (c .before .before .before .before .before .if4 .left), ne-eqb (length (c .before .before .before .before .before .before .before .before .before .before .before .before .args .roots .now)) 0 (c .before .before .before .before .if5 .left), le-ltb 1048576 (length (c .before .before .before .before .before .before .before .before .before .before .before .before .args .roots .now)) (c .before .before .before .if6 .left)) (sym (fault-none (c .before .before .walk .result .number) (c .before .before .walk .result .place) passed (c .if7 .left)) ∙ c .before .before .walk .ensures)
+returns-6 : tie.Need-returns-6
+returns-6 c = simp (sym (c .before .before .before .before .before .before .before .before .out-of-range .ensures), (c .before .before .before .before .before .before .before .if1 .left), sym (c .before .before .before .before .before .before .equal-lengths .ensures), not-false (c .before .before .before .before .before .before .equal-lengths .result) (c .before .before .before .before .before .if2 .left), ne-eqb (length (c .before .before .before .before .before .before .before .before .before .before .before .before .args .roots .now)) 0 (c .before .before .before .before .if3 .left), le-ltb 1048576 (length (c .before .before .before .before .before .before .before .before .before .before .before .before .args .roots .now)) (c .before .before .before .if4 .left)) (sym (fault-none (c .before .before .walk .result .number) (c .before .before .walk .result .place) passed (c .if5 .left)) ∙ (c .before .before .walk .ensures))
 
 pub check-list-spec : {M : Type 1} → statement M
 check-list-spec =
     tie.close
     (tie.spec
+    out-of-range-requires
     returns
+    equal-lengths-requires
     returns-2
     returns-3
     returns-4
-    returns-5
-    returns-6
     walk-requires
-    returns-7
-    returns-8)
+    returns-5
+    returns-6)

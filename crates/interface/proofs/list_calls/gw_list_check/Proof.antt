@@ -8,11 +8,11 @@ use Rattle.interface.proofs.list_calls.gw_list_check.Tie as tie
 check-list-requires : tie.Need-check-list-requires
 check-list-requires c κs = search needs
 
-of-list-requires : tie.Need-of-list-requires
-of-list-requires c κs = search needs
+of-pass-requires : tie.Need-of-pass-requires
+of-pass-requires c κs = search needs
 
 returns : tie.Need-returns
-returns c = c .of-list .ensures ∙ ap checkResult (c .before .check-list .ensures)
+returns c = c .of-pass .ensures ∙ ap checkResult (c .before .check-list .ensures)
 
 pub gw-list-check-spec : {M : Type 1} → statement M
-gw-list-check-spec = tie.close (tie.spec check-list-requires of-list-requires returns)
+gw-list-check-spec = tie.close (tie.spec check-list-requires of-pass-requires returns)

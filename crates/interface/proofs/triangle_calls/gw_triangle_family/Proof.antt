@@ -1,18 +1,18 @@
 -- `gw_triangle_family` meets its contract: the result of the call's outcome. Assumes nothing.
 use mathlib.Core.Path.{ap, _∙_}
 use borrow.Author.Needs.{needs}
-use Rattle.interface.specs.Results.{familyResult}
+use Rattle.interface.specs.Results.{truthResult}
 use Rattle.interface.proofs.triangle_calls.gw_triangle_family.Statement.{statement}
 use Rattle.interface.proofs.triangle_calls.gw_triangle_family.Tie as tie
 
 family-requires : tie.Need-family-requires
 family-requires c κs = search needs
 
-of-family-requires : tie.Need-of-family-requires
-of-family-requires c κs = search needs
+of-truth-requires : tie.Need-of-truth-requires
+of-truth-requires c κs = search needs
 
 returns : tie.Need-returns
-returns c = c .of-family .ensures ∙ ap familyResult (c .before .family .ensures)
+returns c = c .of-truth .ensures ∙ ap truthResult (c .before .family .ensures)
 
 pub gw-triangle-family-spec : {M : Type 1} → statement M
-gw-triangle-family-spec = tie.close (tie.spec family-requires of-family-requires returns)
+gw-triangle-family-spec = tie.close (tie.spec family-requires of-truth-requires returns)

@@ -1,0 +1,98 @@
+-- A list call, test by test: which of its tests refuses, and what is known once they have passed. Assumes nothing.
+use mathlib.Core.Path.{_≡_, ap, _∙_, sym}
+use mathlib.Core.Bool.{Bool, true, false, not, _&&_, _||_, and-eq-true-iff}
+use mathlib.Core.List.{List}
+use Prim.Native.Nat.{ℕ, zero, suc, _+_, _≤_, _<_}
+use native.Mathlib.Nat.{add-zero, add-suc, suc-add, zero-add}
+use native.Mathlib.Omega.{arith}
+use lib.Dec.{ltb, eqb}
+use lib.ListN.{length, getD}
+use borrow.Author.Tests.{ltb-false, eqb-true, eqb-false, not-false}
+use Rattle.paper.specs.Outcome.{Outcome, refused, passed, rows}
+use Rattle.paper.proofs.Tests.{refused-by, passed-by, or-none}
+use Rattle.paper.proofs.Scan.{accepted-by, carry, rows-length}
+use Rattle.leaves.specs.Leaves.{leaf, leafAt, leaves, place, Valid}
+use Rattle.leaves.specs.Calls.{limit, outOfRange, equalColumns, walked, listed}
+use Rattle.leaves.specs.Laws.{at}
+use Rattle.leaves.proofs.Check.{exactly, walked-passed, walked-refused}
+
+-- ---- entry i of the list that stands in three columns
+pub getD-rows : {A : Type 0} (entry : ℕ → A) (d : A) (i k j : ℕ) → j < k → getD (rows entry i k) j d ≡ entry (i + j)
+getD-rows entry d i zero j inside = absurd (omega arith)
+getD-rows entry d i (suc k) zero inside = ap entry (sym (add-zero i))
+getD-rows entry d i (suc k) (suc j) inside = getD-rows entry d (suc i) k j (omega arith) ∙ ap entry (suc-add i j ∙ sym (add-suc i j))
+
+module _ (rs ls ps : List ℕ) where
+  pub at-leaves : (j : ℕ) → j < length rs → at (leaves rs ls ps) j ≡ leafAt rs ls ps j
+  at-leaves j inside = getD-rows (leafAt rs ls ps) (leaf 0 0 0) 0 (length rs) j inside ∙ ap (leafAt rs ls ps) (zero-add j)
+
+  pub leaves-length : length (leaves rs ls ps) ≡ length rs
+  leaves-length = rows-length (leafAt rs ls ps) 0 (length rs)
+
+-- what the three columns are known to be
+pub record SoundColumns (n L K : ℕ) (rs ls ps : List ℕ) : Type 0 where
+  pub levels-long : length rs ≡ length ls
+  pub positions-long : length rs ≡ length ps
+  pub some : 0 < length rs
+  pub few : length rs ≤ limit
+  pub valid : Valid n L K (leaves rs ls ps)
+
+module _ (n L K : ℕ) (inRange fitting : Bool) (rs ls ps : List ℕ) where
+  abbrev wrongNumber : Bool
+  wrongNumber = outOfRange K || not inRange
+
+  abbrev rightColumns : Bool
+  rightColumns = equalColumns rs ls ps && fitting
+
+  abbrev wrongLength : Bool
+  wrongLength = eqb (length rs) 0 || ltb limit (length rs)
+
+  module _ {A : Type 0} (rest : Outcome A) where
+    pub listed-17 : wrongNumber ≡ true → listed n L K inRange fitting rs ls ps rest ≡ refused 17 0
+    listed-17 wrong = refused-by wrongNumber 17 0 _ wrong
+
+    pub listed-11 : wrongNumber ≡ false → rightColumns ≡ false → listed n L K inRange fitting rs ls ps rest ≡ refused 11 0
+    listed-11 number wrong = passed-by wrongNumber 17 0 _ number ∙ refused-by (not rightColumns) 11 0 _ (ap not wrong)
+
+    pub listed-11-length : wrongNumber ≡ false → rightColumns ≡ true → wrongLength ≡ true → listed n L K inRange fitting rs ls ps rest ≡ refused 11 0
+    listed-11-length number columns wrong =
+        passed-by wrongNumber 17 0 _ number ∙ passed-by (not rightColumns) 11 0 _ (ap not columns) ∙ refused-by wrongLength 11 0 _ wrong
+
+    pub listed-on : wrongNumber ≡ false → rightColumns ≡ true → wrongLength ≡ false
+        → listed n L K inRange fitting rs ls ps rest ≡ walked n L K 0 (place 0 0) (leaves rs ls ps) rest
+    listed-on number columns size =
+        passed-by wrongNumber 17 0 _ number ∙ passed-by (not rightColumns) 11 0 _ (ap not columns) ∙ passed-by wrongLength 11 0 _ size
+
+  -- ---- the tests have passed, or have refused; whatever would follow
+  pub columns-sound : listed n L K inRange fitting rs ls ps passed ≡ passed → SoundColumns n L K rs ls ps
+  columns-sound h =
+      let a = accepted-by wrongNumber 17 0 _ h in
+      let b = accepted-by (not rightColumns) 11 0 _ (a .1) in
+      let d = accepted-by wrongLength 11 0 _ (b .1) in
+      let equal = and-eq-true-iff (eqb (length rs) (length ls)) (eqb (length rs) (length ps)) .0
+      (and-eq-true-iff (equalColumns rs ls ps) fitting .0 (not-false rightColumns (b .0)) .0) in
+      let size = or-none (eqb (length rs) 0) (ltb limit (length rs)) (d .0) in
+      let none = eqb-false (length rs) 0 (size .0) in
+      record {
+        levels-long = eqb-true (length rs) (length ls) (equal .0);
+        positions-long = eqb-true (length rs) (length ps) (equal .1);
+        some = above none;
+        few = ltb-false limit (length rs) (size .1);
+        valid = exactly n L K (leaves rs ls ps) .0 (d .1);
+      }
+    where
+      above : {m : ℕ} → (m ≡ 0 → ⊥) → 0 < m
+      above {m} none = omega arith
+
+  module _ {B : Type 0} (rest : Outcome B) where
+    pub listed-passed : listed n L K inRange fitting rs ls ps passed ≡ passed → listed n L K inRange fitting rs ls ps rest ≡ rest
+    listed-passed h =
+        let a = accepted-by wrongNumber 17 0 _ h in
+        let b = accepted-by (not rightColumns) 11 0 _ (a .1) in
+        let d = accepted-by wrongLength 11 0 _ (b .1) in
+        listed-on rest (a .0) (not-false rightColumns (b .0)) (d .0) ∙ walked-passed n L K rest 0 (place 0 0) (leaves rs ls ps) (d .1)
+
+    pub listed-refused : (m p : ℕ) → listed n L K inRange fitting rs ls ps passed ≡ refused m p → listed n L K inRange fitting rs ls ps rest ≡ refused m p
+    listed-refused m p =
+        carry wrongNumber 17 0 m p _ _
+        (carry (not rightColumns) 11 0 m p _ _ (carry wrongLength 11 0 m p _ _ (walked-refused n L K rest 0 m p (place 0 0) (leaves rs ls ps))))
