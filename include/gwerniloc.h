@@ -16,15 +16,17 @@
  *    4  outside the root
  *    5  position not below children^level
  *    6  parent of level 0; descendant level smaller than the element's own
- *    7  child of level 21
+ *    7  child of level 21; mark 1 on a leaf of level 21
  *    8  child or face number too large
  *    9  successor of the last
  *   10  neighbour outside the root
- *   11  columns of one list unequal; input list empty or over 1,048,576
+ *   11  columns of one list unequal; input list empty or over 1,048,576; marks or weights of another length
  *   12  list doesn't cover as stated
+ *   13  mark above 2
  *   14  no room: place = entries needed
  *   15  result over 1,048,576 leaves
- *   17  roots outside 1 to 4,096
+ *   16  weight 0
+ *   17  roots or shares outside 1 to 4,096
  */
 #ifndef GWERNILOC_H
 #define GWERNILOC_H
@@ -239,6 +241,34 @@ uint64_t gw_list_check(uint16_t k, const uint16_t *root, size_t roots, const uin
  *  leaves; 14 no room, place = the entries needed. */
 gw_number_result gw_list_uniform(uint16_t k, uint8_t level, uint16_t *root, size_t roots, uint8_t *leaf_level,
                                  size_t levels, uint64_t *position, size_t positions);
+
+/** 1 if the list is balanced: any two leaves that follow one another in one root differ by at most one level; else 0.
+ *  Refuses: 17 roots outside 1 to 4,096; 11 columns unequal, empty or over 1,048,576; then at each leaf (place = leaf)
+ *  1 level, 5 position, 12 it does not start where the one before it ended; 12 at the length of a list that ends early. */
+gw_number_result gw_list_balanced(uint16_t k, const uint16_t *root, size_t roots, const uint8_t *level, size_t levels,
+                                  const uint64_t *position, size_t positions);
+
+/** One pass over the marks of a list, one a leaf: 0 keep, 1 refine, 2 merge. A refined leaf gives its eight children, eight
+ *  consecutive leaves that are a family and all carry 2 give their parent, any other leaf is kept. The new list stands at the
+ *  front of the new columns; the value is its number of leaves. Refuses: 17 roots outside 1 to 4,096; 11 columns unequal,
+ *  empty or over 1,048,576, marks of another length, new columns unequal; then at each leaf (place = leaf) 1 level,
+ *  5 position, 12 it does not start where the one before it ended; 12 at the length of a list that ends early; then at any
+ *  leaf 13 its mark is above 2; then at any leaf 7 it is refined at level 21; 15 the new list has over 1,048,576 leaves;
+ *  14 the new columns are too short (place = entries needed). The new columns must not overlap the old. */
+gw_number_result gw_list_adapt(uint16_t k, const uint16_t *root, size_t roots, const uint8_t *level, size_t levels,
+                               const uint64_t *position, size_t positions, const uint8_t *mark, size_t marks,
+                               uint16_t *new_root, size_t new_roots, uint8_t *new_level, size_t new_levels,
+                               uint64_t *new_position, size_t new_positions);
+
+/** The p + 1 boundaries of p shares of a weighted list, at the front of the column: share s runs from leaf boundary[s] up to
+ *  boundary[s + 1]. Boundary s is the largest number of leaves whose weights, times p, are within s times the whole weight.
+ *  Returns the refusal alone: 17 roots or shares outside 1 to 4,096; 11 columns unequal, empty or over 1,048,576, weights of
+ *  another length; then at each leaf (place = leaf) 1 level, 5 position, 12 it does not start where the one before it ended;
+ *  12 at the length of a list that ends early; then at any leaf 16 its weight is 0; 14 the column is too short
+ *  (place = p + 1). */
+uint64_t gw_list_shares(uint16_t k, uint16_t p, const uint16_t *root, size_t roots, const uint8_t *level, size_t levels,
+                        const uint64_t *position, size_t positions, const uint16_t *weight, size_t weights,
+                        uint32_t *boundary, size_t boundaries);
 
 #ifdef __cplusplus
 }

@@ -6,7 +6,8 @@
 --   checkResult    of a call with no value: the word alone
 --   lineResult, triangleResult, prismResult, numberResult, truthResult, orderResult
 --                  what the call with the outcome o returns: on a refusal every field of the value is 0
---   UniformResult  what a uniform start returns, and what its three columns hold afterwards
+--   UniformResult, AdaptResult, SharesResult
+--                  what the call returns, and what its lent columns hold afterwards
 --   signOf o       less is -1, same 0, greater 1
 --
 -- Assumes nothing.
@@ -20,7 +21,12 @@ use Rattle.paper.specs.Outcome.{Outcome, accepted, refused, Order, less, same, 
 use Rattle.line.specs.declared.Line.{Line}
 use Rattle.triangle.specs.declared.Triangle.{Triangle}
 use Rattle.prism.specs.declared.Prism.{Prism}
+use Rattle.paper.specs.Memory.{lent}
 use Rattle.leaves.specs.Calls.{Columns, equalColumns, uniform}
+use Rattle.adaption.specs.Adaption.{adapted}
+use Rattle.adaption.specs.Calls.{adaption}
+use Rattle.shares.specs.Shares.{boundaries}
+use Rattle.shares.specs.Calls.{shares}
 use Rattle.leaves.specs.Leaves as leaves
 use Rattle.interface.specs.declared.LineResult.{LineResult}
 use Rattle.interface.specs.declared.TriangleResult.{TriangleResult}
@@ -70,3 +76,12 @@ pub record UniformResult (k level : ℕ) (r : NumberResult) (roots levels positi
   pub result : r ≡ numberResult (uniform 8 21 k level (equalColumns roots levels positions) (length roots))
   pub columns : Columns (uniform 8 21 k level (equalColumns roots levels positions) (length roots)) (leaves.uniform 8 21 k level)
       roots levels positions roots′ levels′ positions′
+
+pub record AdaptResult (k : ℕ) (r : NumberResult) (roots levels positions marks newRoots newLevels newPositions newRoots′ newLevels′ newPositions′ : List ℕ) : Type 0 where
+  pub result : r ≡ numberResult (adaption 8 21 k roots levels positions marks (equalColumns newRoots newLevels newPositions) (length newRoots))
+  pub columns : Columns (adaption 8 21 k roots levels positions marks (equalColumns newRoots newLevels newPositions) (length newRoots))
+      (adapted 8 (leaves.leaves roots levels positions) marks) newRoots newLevels newPositions newRoots′ newLevels′ newPositions′
+
+pub record SharesResult (k p r : ℕ) (roots levels positions weights column column′ : List ℕ) : Type 0 where
+  pub result : r ≡ checkResult (shares 8 21 k p roots levels positions weights (length column))
+  pub written : column′ ≡ lent (shares 8 21 k p roots levels positions weights (length column)) (boundaries p weights) column

@@ -5,7 +5,8 @@ ghost use mathlib.Core.Path.{_≡_};
 ghost use mathlib.Core.Bool.{true};
 ghost use Rattle.paper.specs.Outcome.{passed};
 ghost use Rattle.leaves.specs.Calls.{listed};
-ghost use Rattle.interface.specs.Results.{checkResult, UniformResult};
+ghost use Rattle.balance.specs.Balance.{isBalanced};
+ghost use Rattle.interface.specs.Results.{checkResult, truthResult, UniformResult, AdaptResult, SharesResult};
 
 #[no_mangle]
 pub extern "C" fn gw_list_check(k: u16, roots: &[u16], levels: &[u8], positions: &[u64]) -> u64
@@ -26,4 +27,58 @@ pub extern "C" fn gw_list_uniform(
     ensures { λ r. ⌜ UniformResult k level r (now (roots .entry)) (now (levels .entry)) (now (positions .entry)) (now (roots .exit)) (now (levels .exit)) (now (positions .exit)) ⌝ }
 {
     results::of_number(leaves::uniform(k, level, roots, levels, positions))
+}
+
+#[no_mangle]
+pub extern "C" fn gw_list_balanced(
+    k: u16,
+    roots: &[u16],
+    levels: &[u8],
+    positions: &[u64],
+) -> NumberResult
+    ensures { λ r. ⌜ r ≡ truthResult (isBalanced 8 21 k (now (roots .entry)) (now (levels .entry)) (now (positions .entry))) ⌝ }
+{
+    results::of_truth(balance::balanced(k, roots, levels, positions))
+}
+
+// The list after one pass over its marks, at the front of the new columns.
+#[no_mangle]
+pub extern "C" fn gw_list_adapt(
+    k: u16,
+    roots: &[u16],
+    levels: &[u8],
+    positions: &[u64],
+    marks: &[u8],
+    new_roots: &mut [u16],
+    new_levels: &mut [u8],
+    new_positions: &mut [u64],
+) -> NumberResult
+    ensures { λ r. ⌜ AdaptResult k r (now (roots .entry)) (now (levels .entry)) (now (positions .entry)) (now (marks .entry)) (now («new_roots» .entry)) (now («new_levels» .entry)) (now («new_positions» .entry)) (now («new_roots» .exit)) (now («new_levels» .exit)) (now («new_positions» .exit)) ⌝ }
+{
+    results::of_number(adaption::adapt(
+        k,
+        roots,
+        levels,
+        positions,
+        marks,
+        new_roots,
+        new_levels,
+        new_positions,
+    ))
+}
+
+// The p + 1 boundaries of p shares, at the front of the column.
+#[no_mangle]
+pub extern "C" fn gw_list_shares(
+    k: u16,
+    p: u16,
+    roots: &[u16],
+    levels: &[u8],
+    positions: &[u64],
+    weights: &[u16],
+    boundaries: &mut [u32],
+) -> u64
+    ensures { λ r. ⌜ SharesResult k p r (now (roots .entry)) (now (levels .entry)) (now (positions .entry)) (now (weights .entry)) (now (boundaries .entry)) (now (boundaries .exit)) ⌝ }
+{
+    results::of_pass(shares::shares(k, p, roots, levels, positions, weights, boundaries))
 }

@@ -8,3 +8,4 @@ pub mod Checked
 pub mod Shift
 pub mod Turns
 pub mod Filling
+pub mod Entries

@@ -1,12 +1,12 @@
 -- A column filled from the front, one entry a turn. Assumes nothing.
-use mathlib.Core.Path.{_≡_, refl, ap, ap₂, _∙_, sym}
+use mathlib.Core.Path.{_≡_, refl, ap, ap₂, _∙_, sym, subst⁻¹}
 use mathlib.Core.List.{List, [], _∷_, _++_, map, append-assoc}
 use Prim.Native.Nat.{ℕ, zero, suc, _+_, _≤_, _<_}
 use native.Mathlib.Nat.{add-suc, suc-add, add-zero, zero-add}
 use native.Mathlib.Numerals.{add-one}
 use native.Mathlib.Omega.{arith}
 use lib.ListN.{length, drop, set, length-append, length-drop}
-use lib.Seq.{drop-cons, set-at}
+use lib.Seq.{drop-cons, drop-drop, set-at, sets, sets-eq, take-append-seam, drop-append-add}
 use Rattle.paper.specs.Outcome.{rows}
 use Rattle.paper.specs.Memory.{written}
 use Rattle.paper.proofs.Scan.{rows-length}
@@ -20,15 +20,16 @@ pub map-rows : {A B : Type 0} (g : A → B) (f : ℕ → A) (i k : ℕ) → map 
 map-rows g f i zero = refl
 map-rows g f i (suc k) = ap (λ (xs : List _). g (f i) ∷ xs) (map-rows g f (suc i) k)
 
+-- writing at the front keeps the length
+pub written-length : (xs l : List ℕ) → length xs ≤ length l → length (written xs l) ≡ length l
+written-length xs l room = length-append xs (drop (length xs) l) ∙ omega (arith, length-drop (length xs) l)
+
 module _ (f : ℕ → ℕ) (l : List ℕ) where
   pub front-none : l ≡ written (rows f 0 0) l
   front-none = refl
 
   pub front-length : (k : ℕ) → k ≤ length l → length (written (rows f 0 k) l) ≡ length l
-  front-length k room = length-append (rows f 0 k) (drop (length (rows f 0 k)) l) ∙ rest
-    where
-      rest : length (rows f 0 k) + length (drop (length (rows f 0 k)) l) ≡ length l
-      rest = omega (arith, length-drop (length (rows f 0 k)) l, rows-length f 0 k)
+  front-length k room = written-length (rows f 0 k) l (omega (arith, rows-length f 0 k))
 
   pub front-more : (i : ℕ) → i < length l → set (written (rows f 0 i) l) i (f i) ≡ written (rows f 0 (i + 1)) l
   front-more i inside =
@@ -39,3 +40,26 @@ module _ (f : ℕ → ℕ) (l : List ℕ) where
       ap (λ (t : List ℕ). set (rows f 0 i ++ t) i (f i)) (tail ∙ drop-cons l i 0 inside)
       ∙ set-at (rows f 0 i) _ (drop (suc i) l) (f i) i long
       ∙ sym (ap₂ (λ (xs : List ℕ) (k : ℕ). xs ++ drop k l) more longer ∙ append-assoc (rows f 0 i) (f i ∷ []) (drop (suc i) l))
+
+-- ---- a run of entries, stored from an index on
+sets-snoc : (l : List ℕ) (i : ℕ) (xs : List ℕ) (a : ℕ) → sets l i (xs ++ (a ∷ [])) ≡ set (sets l i xs) (i + length xs) a
+sets-snoc l i [] a = ap (λ (k : ℕ). set l k a) (sym (add-zero i))
+sets-snoc l i (x ∷ xs) a =
+    sets-snoc (set l i x) (suc i) xs a
+    ∙ ap (λ (k : ℕ). set (sets (set l i x) (suc i) xs) k a) (suc-add i (length xs) ∙ sym (add-suc i (length xs)))
+
+-- one entry more
+pub run-more : (f : ℕ → ℕ) (l : List ℕ) (i k : ℕ) → set (sets l i (rows f 0 k)) (i + k) (f k) ≡ sets l i (rows f 0 (k + 1))
+run-more f l i k =
+    ap₂ (λ (j m : ℕ). set (sets l i (rows f 0 k)) (i + j) (f m)) (sym (rows-length f 0 k)) (sym (zero-add k))
+    ∙ sym (sets-snoc l i (rows f 0 k) (f (0 + k)))
+    ∙ ap (sets l i) (sym (ap (rows f 0) (add-one k) ∙ rows-snoc f 0 k))
+
+-- a run stored right after the front makes the front longer
+pub written-run : (xs ys l : List ℕ) → length xs + length ys ≤ length l → sets (written xs l) (length xs) ys ≡ written (xs ++ ys) l
+written-run xs ys l room =
+    let whole = written-length xs l (omega arith) in
+    sets-eq ys (written xs l) (length xs) (subst⁻¹ (λ (k : ℕ). length xs + length ys ≤ k) whole room)
+    ∙ ap₂ (λ (front rest : List ℕ). front ++ ys ++ rest) (take-append-seam xs (drop (length xs) l))
+    (drop-append-add xs (drop (length xs) l) (length ys) ∙ drop-drop (length ys) (length xs) l)
+    ∙ ap (λ (k : ℕ). xs ++ ys ++ drop k l) (sym (length-append xs ys))

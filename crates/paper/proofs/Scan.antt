@@ -51,6 +51,15 @@ carry true n p m q short long onward h =
     ap₂ refused number place
 carry false n p m q short long onward h = onward h
 
+-- an accepted scan passed, and so did what follows it
+pub scan-accepted : {A : Type 0} (fault : A → ℕ) (i : ℕ) (es : List A) (rest : Outcome (Unit {0})) → scan fault i es rest ≡ passed
+    → (scan fault i es passed ≡ passed) × (rest ≡ passed)
+scan-accepted fault i [] rest h = (refl, h)
+scan-accepted fault i (e ∷ es) rest h =
+    let d = accepted-by (not (eqb (fault e) 0)) (fault e) i (scan fault (suc i) es rest) h in
+    let later = scan-accepted fault (suc i) es rest (d .1) in
+    (passed-by _ (fault e) i (scan fault (suc i) es passed) (d .0) ∙ later .0, later .1)
+
 module _ {A B : Type 0} (fault : A → ℕ) where
   pub scan-passed : (i : ℕ) (es : List A) (rest : Outcome B) → scan fault i es passed ≡ passed → scan fault i es rest ≡ rest
   scan-passed i [] rest h = refl
@@ -58,11 +67,15 @@ module _ {A B : Type 0} (fault : A → ℕ) where
       let d = accepted-by (not (eqb (fault e) 0)) (fault e) i (scan fault (suc i) es passed) h in
       passed-by _ (fault e) i (scan fault (suc i) es rest) (d .0) ∙ scan-passed (suc i) es rest (d .1)
 
+  pub scan-carry : (i n p : ℕ) (es : List A) (short : Outcome (Unit {0})) (long : Outcome B) → (short ≡ refused n p → long ≡ refused n p)
+      → scan fault i es short ≡ refused n p → scan fault i es long ≡ refused n p
+  scan-carry i n p [] short long onward h = onward h
+  scan-carry i n p (e ∷ es) short long onward h =
+      carry (not (eqb (fault e) 0)) (fault e) i n p (scan fault (suc i) es short) (scan fault (suc i) es long)
+      (scan-carry (suc i) n p es short long onward) h
+
   pub scan-refused : (i n p : ℕ) (es : List A) (rest : Outcome B) → scan fault i es passed ≡ refused n p → scan fault i es rest ≡ refused n p
-  scan-refused i n p [] rest h = never tt n p (sym h)
-  scan-refused i n p (e ∷ es) rest h =
-      carry (not (eqb (fault e) 0)) (fault e) i n p (scan fault (suc i) es passed) (scan fault (suc i) es rest)
-      (scan-refused (suc i) n p es rest) h
+  scan-refused i n p es rest = scan-carry i n p es passed rest (λ e. never tt n p (sym e))
 
 module _ {A : Type 0} (fault : A → ℕ) (entry : ℕ → A) where
   -- ---- one row more, of m rows, as a loop meets them

@@ -1,0 +1,93 @@
+-- Whether a merging family begins at leaf i, by what the code looks at: its level, its position, how many leaves follow, and the levels and
+-- marks of those. Assumes nothing.
+use mathlib.Core.Path.{_≡_, ap, _∙_, sym}
+use mathlib.Core.Bool.{true, false}
+use mathlib.Core.List.{List}
+use Prim.Native.Nat.{ℕ, _+_, _-_, _%_, _≤_, _<_}
+use native.Mathlib.Nat.{add-zero}
+use native.Mathlib.Decide.{ℕ-discrete}
+use native.Mathlib.Omega.{arith}
+use lib.ListN.{length, getD}
+use Rattle.leaves.specs.Leaves.{Leaf, leaves}
+use Rattle.leaves.specs.Laws.{at}
+use Rattle.leaves.proofs.Listed.{at-leaves, leaves-length}
+use Rattle.adaption.specs.Adaption.{mark, merging}
+use Rattle.adaption.specs.Pass.{Ready}
+use Rattle.adaption.proofs.Family.{Merging, merging-is, is-merging, number-in, not-so}
+
+-- ---- the first t leaves from i on have one level and carry 2
+module _ (ls ms : List ℕ) (i : ℕ) where
+  pub record Alike (t : ℕ) : Type 0 where
+    pub levels : (s : ℕ) → s < t → getD ls (i + s) 0 ≡ getD ls i 0
+    pub marks : (s : ℕ) → s < t → mark ms (i + s) ≡ 2
+
+  pub alike-none : Alike 0
+  alike-none = record { levels = λ s less. absurd (omega arith); marks = λ s less. absurd (omega arith) }
+
+  pub alike-more : (t : ℕ) → Alike t → getD ls (i + t) 0 ≡ getD ls i 0 → mark ms (i + t) ≡ 2 → Alike (t + 1)
+  alike-more t so-far level two = record { levels = λ s less. one-level s less (ℕ-discrete s t); marks = λ s less. one-mark s less (ℕ-discrete s t) }
+    where
+      one-level : (s : ℕ) → s < t + 1 → Dec (s ≡ t) → getD ls (i + s) 0 ≡ getD ls i 0
+      one-level s less (yes here) = ap (λ (k : ℕ). getD ls (i + k) 0) here ∙ level
+      one-level s less (no earlier) = so-far .levels s (omega arith)
+
+      one-mark : (s : ℕ) → s < t + 1 → Dec (s ≡ t) → mark ms (i + s) ≡ 2
+      one-mark s less (yes here) = ap (λ (k : ℕ). mark ms (i + k)) here ∙ two
+      one-mark s less (no earlier) = so-far .marks s (omega arith)
+
+module _ (n : ℕ) (positive : 0 < n) (rs ls ps ms : List ℕ) where
+  pub level-at : (j : ℕ) → j < length rs → at (leaves rs ls ps) j .level ≡ getD ls j 0
+  level-at j inside = ap (λ (v : Leaf). v .level) (at-leaves rs ls ps j inside)
+
+  pub position-at : (j : ℕ) → j < length rs → at (leaves rs ls ps) j .position ≡ getD ps j 0
+  position-at j inside = ap (λ (v : Leaf). v .position) (at-leaves rs ls ps j inside)
+
+  module _ (i : ℕ) (inside : i < length rs) where
+    abbrev never : Type 0
+    never = merging n (leaves rs ls ps) ms i ≡ false
+
+    by-merging : (Merging n (leaves rs ls ps) ms i → ⊥) → never
+    by-merging no-family = not-so (merging n (leaves rs ls ps) ms i) (λ m. no-family (merging-is n (leaves rs ls ps) ms i m))
+
+    pub none-at-root : getD ls i 0 ≡ 0 → never
+    none-at-root root = by-merging (λ m. omega (arith, m .deep, level-at i inside))
+
+    pub none-of-younger : (getD ps i 0 % n ≡ 0 → ⊥) → never
+    none-of-younger younger =
+        by-merging (λ m. younger (ap (λ (p : ℕ). p % n) (sym (position-at i inside))
+        ∙ ap (λ (k : ℕ). at (leaves rs ls ps) k .position % n) (sym (add-zero i)) ∙ number-in n (leaves rs ls ps) ms i 0 m positive))
+
+    pub none-so-late : length rs - i < n → never
+    none-so-late late = by-merging (λ m. omega (arith, m .inside, leaves-length rs ls ps))
+
+    pub none-unmarked : (mark ms i ≡ 2 → ⊥) → never
+    none-unmarked other = by-merging (λ m. other (ap (mark ms) (sym (add-zero i)) ∙ m .carries 0 positive))
+
+    module _ (t : ℕ) (below : t < n) (room : n ≤ length rs - i) where
+      pub none-of-levels : (getD ls (i + t) 0 ≡ getD ls i 0 → ⊥) → never
+      none-of-levels other = by-merging (λ m. other (level m))
+        where
+          level : Merging n (leaves rs ls ps) ms i → getD ls (i + t) 0 ≡ getD ls i 0
+          level m =
+              let deep : 0 < getD ls i 0 = rw (sym (level-at i inside)) (m .deep) in
+              sym (level-at (i + t) (omega arith)) ∙ ap (λ (v : Leaf). v .level) (m .sibling t below)
+              ∙ omega (arith, deep, level-at i inside)
+
+      pub none-of-marks : (mark ms (i + t) ≡ 2 → ⊥) → never
+      none-of-marks other = by-merging (λ m. other (m .carries t below))
+
+    pub begins-family : Ready n (leaves rs ls ps) ms → (getD ls i 0 ≡ 0 → ⊥) → getD ps i 0 % n ≡ 0 → n ≤ length rs - i → Alike ls ms i n
+        → merging n (leaves rs ls ps) ms i ≡ true
+    begins-family ready deep first room alike =
+        let deep-at : 0 < at (leaves rs ls ps) i .level = rw (level-at i inside) (above deep) in
+        let room-at : i + n ≤ length (leaves rs ls ps) = omega (arith, leaves-length rs ls ps) in
+        is-merging n (leaves rs ls ps) ms i (record {
+          deep = deep-at;
+          inside = room-at;
+          sibling = ready .siblings i room-at deep-at (ap (λ (p : ℕ). p % n) (position-at i inside) ∙ first)
+              (λ t below. level-at (i + t) (omega arith) ∙ alike .levels t below ∙ sym (level-at i inside));
+          carries = alike .marks;
+        })
+      where
+        above : {m : ℕ} → (m ≡ 0 → ⊥) → 0 < m
+        above {m} none = omega arith

@@ -1,0 +1,3 @@
+pub mod Adaption
+pub mod Calls
+pub mod Pass

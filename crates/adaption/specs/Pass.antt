@@ -1,0 +1,67 @@
+-- The pass over the marks as the code makes it: turn by turn, from one leaf that is no younger sibling of a merging family to the next.
+-- Definitions only; `proofs/Turns.antt` ties them to what each leaf gives.
+--
+--   turn vs ms i     what happens at leaf i: 1 it is refined, 2 a merging family begins with it, 0 neither
+--   gain n t         how many leaves a turn makes
+--   stride n t       how many leaves a turn takes
+--   newLevel, newPosition   of the first leaf that a turn makes
+--   run r l p k      k leaves of root r and level l, from position p on
+--   made vs ms i     what the turn at leaf i makes
+--   Ready            what the pass needs of a list and its marks: n leaves of one level, from a position divisible by n on, are a family;
+--                    no level or position that it makes is too large for its type
+--   Ran, Passed      the contracts of the loops: what stands in three columns after a run, and after the whole pass
+--
+-- Assumes nothing.
+use mathlib.Core.Path.{_≡_}
+use mathlib.Core.Bool.{cond}
+use mathlib.Core.List.{List, map}
+use Prim.Native.Nat.{ℕ, _+_, _-_, _*_, _/_, _%_, _^_, _≤_, _<_}
+use lib.Dec.{eqb}
+use lib.ListN.{length}
+use lib.Seq.{sets}
+use Rattle.paper.specs.Outcome.{rows}
+use Rattle.paper.specs.Memory.{written}
+use Rattle.leaves.specs.Leaves.{Leaf, leaf}
+use Rattle.leaves.specs.Laws.{at}
+use Rattle.adaption.specs.Adaption.{mark, child, parent, merging}
+
+abbrev pub newLevel : ℕ → ℕ → ℕ
+newLevel t l = cond (eqb t 1) (l + 1) (cond (eqb t 2) (l - 1) l)
+
+abbrev pub run : ℕ → ℕ → ℕ → ℕ → List Leaf
+run r l p k = rows (λ t. leaf r l (p + t)) 0 k
+
+module _ (n : ℕ) where
+  abbrev pub turn : List Leaf → List ℕ → ℕ → ℕ
+  turn vs ms i = cond (eqb (mark ms i) 1) 1 (cond (merging n vs ms i) 2 0)
+
+  abbrev pub gain : ℕ → ℕ
+  gain t = cond (eqb t 1) n 1
+
+  abbrev pub stride : ℕ → ℕ
+  stride t = cond (eqb t 2) n 1
+
+  abbrev pub newPosition : ℕ → ℕ → ℕ
+  newPosition t p = cond (eqb t 1) (n * p) (cond (eqb t 2) (p / n) p)
+
+  abbrev pub made : List Leaf → List ℕ → ℕ → List Leaf
+  made vs ms i =
+      run (at vs i .root) (newLevel (turn vs ms i) (at vs i .level)) (newPosition (turn vs ms i) (at vs i .position)) (gain (turn vs ms i))
+
+  pub record Ready (vs : List Leaf) (ms : List ℕ) : Type 0 where
+    pub siblings : (j : ℕ) → j + n ≤ length vs → 0 < at vs j .level → at vs j .position % n ≡ 0
+        → ((t : ℕ) → t < n → at vs (j + t) .level ≡ at vs j .level)
+        → (t : ℕ) → t < n → at vs (j + t) ≡ child n (parent n (at vs j)) t
+    pub low : (i : ℕ) → i < length vs → at vs i .position < 2 ^ 63
+    pub shallow : (i : ℕ) → i < length vs → mark ms i ≡ 1 → at vs i .level < 255
+    pub narrow : (i : ℕ) → i < length vs → mark ms i ≡ 1 → n * at vs i .position + n ≤ 2 ^ 63
+
+pub record Ran (at : ℕ) (vs : List Leaf) (roots levels positions roots′ levels′ positions′ : List ℕ) : Type 0 where
+  pub in-roots : roots′ ≡ sets roots at (map (λ (v : Leaf). v .root) vs)
+  pub in-levels : levels′ ≡ sets levels at (map (λ (v : Leaf). v .level) vs)
+  pub in-positions : positions′ ≡ sets positions at (map (λ (v : Leaf). v .position) vs)
+
+pub record Passed (vs : List Leaf) (roots levels positions roots′ levels′ positions′ : List ℕ) : Type 0 where
+  pub in-roots : roots′ ≡ written (map (λ (v : Leaf). v .root) vs) roots
+  pub in-levels : levels′ ≡ written (map (λ (v : Leaf). v .level) vs) levels
+  pub in-positions : positions′ ≡ written (map (λ (v : Leaf). v .position) vs) positions

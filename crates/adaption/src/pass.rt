@@ -1,0 +1,66 @@
+// The pass over the marks: once to count, once to write.
+use crate::run;
+use crate::turn;
+ghost use mathlib.Core.Path.{_≡_};
+ghost use Prim.Native.Nat.{_^_, _≤_, _<_};
+ghost use lib.ListN.{length};
+ghost use Rattle.leaves.specs.Leaves.{leaves};
+ghost use Rattle.adaption.specs.Adaption.{adapted};
+ghost use Rattle.adaption.specs.Pass.{Ready, Passed};
+
+// How many leaves the result has.
+pub(crate) fn count(
+    bits: u8,
+    roots: &[u16],
+    levels: &[u8],
+    positions: &[u64],
+    marks: &[u8],
+) -> usize
+    requires { ⌜ (bits < 8) × ((length (now roots) ≤ 1048576) × ((length (now roots) ≡ length (now levels)) × ((length (now roots) ≡ length (now positions)) × ((length (now roots) ≡ length (now marks)) × Ready (2 ^ bits) (leaves (now roots) (now levels) (now positions)) (now marks))))) ⌝ }
+    ensures { λ r. ⌜ r ≡ length (adapted (2 ^ bits) (leaves (now (roots .entry)) (now (levels .entry)) (now (positions .entry))) (now (marks .entry))) ⌝ }
+{
+    let mut i = 0;
+    let mut size = 0;
+    while i < roots.len() {
+        let t = turn::turn(bits, roots, levels, positions, marks, i);
+        size += turn::made(bits, t);
+        i += turn::taken(bits, t);
+    }
+    size
+}
+
+// The result, written at the front of the new columns.
+pub(crate) fn write(
+    bits: u8,
+    roots: &[u16],
+    levels: &[u8],
+    positions: &[u64],
+    marks: &[u8],
+    new_roots: &mut [u16],
+    new_levels: &mut [u8],
+    new_positions: &mut [u64],
+)
+    requires { ⌜ (bits < 8) × ((length (now roots) ≤ 1048576) × ((length (adapted (2 ^ bits) (leaves (now roots) (now levels) (now positions)) (now marks)) ≤ length (now «new_roots»)) × ((length (now «new_roots») ≡ length (now «new_levels»)) × ((length (now «new_roots») ≡ length (now «new_positions»)) × ((length (now roots) ≡ length (now levels)) × ((length (now roots) ≡ length (now positions)) × ((length (now roots) ≡ length (now marks)) × Ready (2 ^ bits) (leaves (now roots) (now levels) (now positions)) (now marks)))))))) ⌝ }
+    ensures { λ _. ⌜ Passed (adapted (2 ^ bits) (leaves (now (roots .entry)) (now (levels .entry)) (now (positions .entry))) (now (marks .entry))) (now («new_roots» .entry)) (now («new_levels» .entry)) (now («new_positions» .entry)) (now («new_roots» .exit)) (now («new_levels» .exit)) (now («new_positions» .exit)) ⌝ }
+{
+    let mut i = 0;
+    let mut size = 0;
+    while i < roots.len() {
+        let t = turn::turn(bits, roots, levels, positions, marks, i);
+        let count = turn::made(bits, t);
+        let level = turn::level(t, levels[i]);
+        let position = turn::position(bits, t, positions[i]);
+        run::run(
+            size,
+            count,
+            roots[i],
+            level,
+            position,
+            new_roots,
+            new_levels,
+            new_positions,
+        );
+        size += count;
+        i += turn::taken(bits, t);
+    }
+}

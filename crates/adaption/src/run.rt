@@ -1,0 +1,28 @@
+// A run of leaves, written into three columns.
+ghost use Prim.Native.Nat.{_+_, _≤_};
+ghost use lib.ListN.{length};
+ghost use Rattle.adaption.specs.Pass as pass;
+ghost use Rattle.adaption.specs.Pass.{Ran};
+
+// count leaves of one root and level, from a position on, at entry `at` of each column.
+pub(crate) fn run(
+    at: usize,
+    count: usize,
+    root: u16,
+    level: u8,
+    position: u64,
+    roots: &mut [u16],
+    levels: &mut [u8],
+    positions: &mut [u64],
+)
+    requires { ⌜ (position + count ≤ 18446744073709551616) × ((at + count ≤ length (now roots)) × ((at + count ≤ length (now levels)) × (at + count ≤ length (now positions)))) ⌝ }
+    ensures { λ _. ⌜ Ran at (pass.run root level position count) (now (roots .entry)) (now (levels .entry)) (now (positions .entry)) (now (roots .exit)) (now (levels .exit)) (now (positions .exit)) ⌝ }
+{
+    let mut t = 0;
+    while t < count {
+        roots[at + t] = root;
+        levels[at + t] = level;
+        positions[at + t] = position + t as u64;
+        t += 1;
+    }
+}

@@ -1,0 +1,46 @@
+-- Document 01, "Leaf lists": "Balanced: any two leaves that follow one another in one root differ by at most one level." Definitions only.
+--
+--   near u v       the leaves u and v, if of one root, differ by at most one level
+--   balanced vs    so do any two of vs that follow one another
+--   isBalanced     the call: the tests of a list call, then yes or no
+--   Balanced vs    the paper's sentence as a statement
+--   Exact          yes is exactly that
+--
+-- Assumes nothing.
+use mathlib.Core.Path.{_≡_}
+use mathlib.Core.Logic.{_↔_}
+use mathlib.Core.Bool.{Bool, true, not, _&&_, _||_}
+use mathlib.Core.List.{List, [], _∷_}
+use Prim.Native.Nat.{ℕ, _+_, _≤_, _<_}
+use lib.Dec.{leb, eqb}
+use lib.ListN.{length}
+use Rattle.paper.specs.Outcome.{Outcome, accepted}
+use Rattle.leaves.specs.Leaves.{Leaf, leaves}
+use Rattle.leaves.specs.Calls.{listed}
+use Rattle.leaves.specs.Laws.{at}
+
+abbrev pub near : Leaf → Leaf → Bool
+near u v = not (eqb (u .root) (v .root)) || (leb (u .level) (v .level + 1) && leb (v .level) (u .level + 1))
+
+-- the leaves vs after the leaf u
+unfoldable pub balancedAfter : Leaf → List Leaf → Bool
+balancedAfter u [] = true
+balancedAfter u (v ∷ vs) = near u v && balancedAfter v vs
+
+unfoldable pub balanced : List Leaf → Bool
+balanced [] = true
+balanced (u ∷ vs) = balancedAfter u vs
+
+abbrev pub isBalanced : ℕ → ℕ → ℕ → List ℕ → List ℕ → List ℕ → Outcome Bool
+isBalanced n L K roots levels positions =
+    listed n L K true true roots levels positions (accepted (balanced (leaves roots levels positions)))
+
+pub record Near (u v : Leaf) : Type 0 where
+  pub not-far-below : u .level ≤ v .level + 1
+  pub not-far-above : v .level ≤ u .level + 1
+
+abbrev pub Balanced : List Leaf → Type 0
+Balanced vs = (i : ℕ) → i + 1 < length vs → at vs i .root ≡ at vs (i + 1) .root → Near (at vs i) (at vs (i + 1))
+
+abbrev pub Exact : Type 0
+Exact = (vs : List Leaf) → balanced vs ≡ true ↔ Balanced vs

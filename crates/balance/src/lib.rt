@@ -1,0 +1,49 @@
+// Whether a leaf list is balanced. The contract is the call of `specs/Balance.antt` at eight children and highest level 21.
+use paper::PassAnswer;
+use paper::TruthAnswer;
+ghost use mathlib.Core.Path.{_≡_};
+ghost use mathlib.Core.Bool.{_&&_};
+ghost use mathlib.Core.List.{List};
+ghost use Prim.Native.Nat.{ℕ, _+_, _<_};
+ghost use lib.Dec.{leb};
+ghost use lib.ListN.{length};
+ghost use Rattle.paper.specs.Readings.{truthOf};
+ghost use Rattle.leaves.specs.Leaves.{leaves};
+ghost use Rattle.balance.specs.Balance.{balanced, isBalanced};
+
+// Whether any two leaves that follow one another in one root differ by at most one level. Refused: 17, 11, then 1, 5, 12 at each leaf.
+pub fn balanced(k: u16, roots: &[u16], levels: &[u8], positions: &[u64]) -> TruthAnswer
+    ensures { λ r. ⌜ truthOf r ≡ isBalanced 8 21 k (now (roots .entry)) (now (levels .entry)) (now (positions .entry)) ⌝ }
+{
+    match leaves::check_list(k, roots, levels, positions) {
+        PassAnswer::Passed => TruthAnswer::Is(all_near(roots, levels)),
+        PassAnswer::Refused(number, place) => TruthAnswer::Refused(number, place),
+    }
+}
+
+// Each leaf after the first beside the one before it. Positions do not matter, and roots only where the levels are apart.
+fn all_near(roots: &[u16], levels: &[u8]) -> bool
+    requires { ⌜ (0 < length (now roots)) × (length (now roots) ≡ length (now levels)) ⌝ }
+    ensures { λ r. ⌜ ((positions : List ℕ) → r ≡ balanced (leaves (now (roots .entry)) (now (levels .entry)) positions)) ⌝ }
+{
+    let mut i = 1;
+    while i < roots.len() {
+        if !near_levels(levels[i - 1], levels[i]) {
+            if roots[i - 1] == roots[i] {
+                return false;
+            }
+        }
+        i += 1;
+    }
+    true
+}
+
+// Whether two levels differ by at most one.
+fn near_levels(level: u8, level2: u8) -> bool
+    ensures { λ r. ⌜ r ≡ (leb level (level2 + 1) && leb level2 (level + 1)) ⌝ }
+{
+    if level2 as u16 + 1 < level as u16 {
+        return false;
+    }
+    level2 as u16 <= level as u16 + 1
+}

@@ -1,0 +1,32 @@
+-- The leaves of a list that covers, one by one: each is sound, and each starts where the one before it ends. Assumes nothing.
+use mathlib.Core.Path.{_≡_}
+use mathlib.Core.List.{List, [], _∷_}
+use Prim.Native.Nat.{ℕ, zero, suc, _^_, _≤_, _<_}
+use native.Mathlib.Omega.{arith}
+use lib.ListN.{length}
+use Rattle.leaves.specs.Leaves.{Leaf, Place, startOf, endOf, Covers}
+use Rattle.leaves.specs.Laws.{at}
+
+module _ (n L K : ℕ) where
+  pub level-at : (c : Place) (vs : List Leaf) (j : ℕ) → Covers n L c vs K → j < length vs → at vs j .level ≤ L
+  unfolding Covers
+  level-at c [] j f inside = absurd (omega arith)
+  level-at c (v ∷ vs) zero f inside = f .0
+  level-at c (v ∷ vs) (suc j) f inside = level-at (endOf n L v) vs j (f .4) (omega arith)
+
+  pub position-at : (c : Place) (vs : List Leaf) (j : ℕ) → Covers n L c vs K → j < length vs → at vs j .position < n ^ at vs j .level
+  unfolding Covers
+  position-at c [] j f inside = absurd (omega arith)
+  position-at c (v ∷ vs) zero f inside = f .1
+  position-at c (v ∷ vs) (suc j) f inside = position-at (endOf n L v) vs j (f .4) (omega arith)
+
+  starts-at : (c : Place) (vs : List Leaf) → Covers n L c vs K → 0 < length vs → startOf n L (at vs 0) ≡ c
+  unfolding Covers
+  starts-at c [] f some = absurd (omega arith)
+  starts-at c (v ∷ vs) f some = f .2
+
+  pub follows : (c : Place) (vs : List Leaf) (j : ℕ) → Covers n L c vs K → suc j < length vs → startOf n L (at vs (suc j)) ≡ endOf n L (at vs j)
+  unfolding Covers
+  follows c [] j f inside = absurd (omega arith)
+  follows c (v ∷ vs) zero f inside = starts-at (endOf n L v) vs (f .4) (omega arith)
+  follows c (v ∷ vs) (suc j) f inside = follows (endOf n L v) vs j (f .4) (omega arith)
