@@ -13,7 +13,8 @@ use Rattle.leaves.specs.Laws.{at}
 use Rattle.leaves.proofs.Listed.{at-leaves, leaves-length}
 use Rattle.adaption.specs.Adaption.{mark, merging}
 use Rattle.adaption.specs.Pass.{Ready}
-use Rattle.adaption.proofs.Family.{Merging, merging-is, is-merging, number-in, not-so}
+use Rattle.adaption.specs.Laws.{Merging}
+use Rattle.adaption.proofs.Family.{merging-is, is-merging, number-in, not-so}
 
 -- ---- the first t leaves from i on have one level and carry 2
 module _ (ls ms : List ℕ) (i : ℕ) where

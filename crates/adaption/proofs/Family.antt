@@ -3,7 +3,7 @@
 use mathlib.Core.Path.{_≡_, refl, ap, ap₂, _∙_, sym}
 use mathlib.Core.Bool.{Bool, true, false, _&&_, and-eq-true-iff}
 use mathlib.Core.List.{List}
-use Prim.Native.Nat.{ℕ, zero, suc, _+_, _-_, _/_, _%_, _≤_, _<_}
+use Prim.Native.Nat.{ℕ, zero, suc, _+_, _-_, _/_, _%_, _<_}
 use native.Mathlib.Nat.{mul-add-mod-self-left, mod-eq-of-lt, add-zero}
 use native.Mathlib.Decide.{ℕ-discrete}
 use native.Mathlib.Omega.{arith}
@@ -12,6 +12,7 @@ use lib.ListN.{length}
 use borrow.Author.Tests.{ltb-true, leb-true, eqb-true, lt-ltb, le-leb, eq-eqb}
 use Rattle.leaves.specs.Leaves.{Leaf, leaf}
 use Rattle.leaves.specs.Laws.{at}
+use Rattle.adaption.specs.Laws.{Merging}
 use Rattle.adaption.specs.Adaption.{mark, every, same, child, parent, family, merging, eldest}
 
 -- ---- tests
@@ -51,13 +52,7 @@ is-same u v e =
     )
 
 module _ (n : ℕ) (vs : List Leaf) (ms : List ℕ) where
-  pub record Merging (j : ℕ) : Type 0 where
-    pub deep : 0 < at vs j .level
-    pub inside : j + n ≤ length vs
-    pub sibling : (t : ℕ) → t < n → at vs (j + t) ≡ child n (parent n (at vs j)) t
-    pub carries : (t : ℕ) → t < n → mark ms (j + t) ≡ 2
-
-  pub merging-is : (j : ℕ) → merging n vs ms j ≡ true → Merging j
+  pub merging-is : (j : ℕ) → merging n vs ms j ≡ true → Merging n vs ms j
   merging-is j h =
       let a = and-eq-true-iff (family n vs j) (every n (λ t. eqb (mark ms (j + t)) 2)) .0 h in
       let b = and-eq-true-iff (ltb 0 (at vs j .level)) (leb (j + n) (length vs) && every n (λ t. same (at vs (j + t)) (child n (parent n (at vs j)) t))) .0 (a .0) in
@@ -69,7 +64,7 @@ module _ (n : ℕ) (vs : List Leaf) (ms : List ℕ) where
         carries = λ t below. eqb-true (mark ms (j + t)) 2 (every-all n (λ t. eqb (mark ms (j + t)) 2) (a .1) t below);
       }
 
-  pub is-merging : (j : ℕ) → Merging j → merging n vs ms j ≡ true
+  pub is-merging : (j : ℕ) → Merging n vs ms j → merging n vs ms j ≡ true
   is-merging j m =
       simp (
         lt-ltb 0 (at vs j .level) (m .deep),
@@ -79,16 +74,16 @@ module _ (n : ℕ) (vs : List Leaf) (ms : List ℕ) where
       )
 
   -- a sibling's number is what its position leaves
-  pub number-in : (j t : ℕ) → Merging j → t < n → at vs (j + t) .position % n ≡ t
+  pub number-in : (j t : ℕ) → Merging n vs ms j → t < n → at vs (j + t) .position % n ≡ t
   number-in j t m below =
       ap (λ (v : Leaf). v .position % n) (m .sibling t below) ∙ mul-add-mod-self-left n (at vs j .position / n) t ∙ mod-eq-of-lt below
 
-  pub eldest-in : (j t : ℕ) → Merging j → t < n → eldest n vs (j + t) ≡ j
+  pub eldest-in : (j t : ℕ) → Merging n vs ms j → t < n → eldest n vs (j + t) ≡ j
   eldest-in j t m below = ap (λ (k : ℕ). j + t - k) (number-in j t m below) ∙ back j t
     where
       back : (a b : ℕ) → a + b - b ≡ a
       back a b = omega arith
 
-  pub alone : 0 < n → (j t : ℕ) → Merging j → Merging (j + t) → t < n → t ≡ 0
+  pub alone : 0 < n → (j t : ℕ) → Merging n vs ms j → Merging n vs ms (j + t) → t < n → t ≡ 0
   alone positive j t m other below =
       sym (number-in j t m below) ∙ ap (λ (k : ℕ). at vs k .position % n) (sym (add-zero (j + t))) ∙ number-in (j + t) 0 other positive

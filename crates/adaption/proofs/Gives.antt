@@ -9,7 +9,8 @@ use borrow.Author.Tests.{eq-eqb, ne-eqb}
 use Rattle.leaves.specs.Leaves.{Leaf}
 use Rattle.leaves.specs.Laws.{at}
 use Rattle.adaption.specs.Adaption.{mark, childrenOf, parent, merging, eldest, gives}
-use Rattle.adaption.proofs.Family.{Merging, is-merging, eldest-in, not-so}
+use Rattle.adaption.specs.Laws.{Merging}
+use Rattle.adaption.proofs.Family.{is-merging, eldest-in, not-so}
 
 module _ (n : ℕ) (positive : 0 < n) (vs : List Leaf) (ms : List ℕ) where
   pub gives-refined : (i : ℕ) → mark ms i ≡ 1 → gives n vs ms i ≡ childrenOf n (at vs i)

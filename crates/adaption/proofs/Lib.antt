@@ -10,3 +10,7 @@ pub mod Fitting
 pub mod Siblings
 pub mod Marked
 pub mod Adapting
+pub mod Covering
+pub mod Validity
+pub mod Keeping
+pub mod Promised

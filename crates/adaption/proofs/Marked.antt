@@ -27,7 +27,7 @@ module _ (L : ℕ) (ls ms : List ℕ) where
   module _ {A : Type 0} (rest : Outcome A) where
     pub marked-passed : marked L ls ms passed ≡ passed → marked L ls ms rest ≡ rest
     marked-passed h =
-        let both = scan-accepted (markFault ms) 0 (numbers (length ms)) _ h in
+        let both = scan-accepted (markFault ms) 0 (numbers (length ms)) _ tt h in
         scan-passed (markFault ms) 0 (numbers (length ms)) _ (both .0) ∙ scan-passed (depthFault L ls ms) 0 (numbers (length ms)) rest (both .1)
 
     pub marked-refused : (m p : ℕ) → marked L ls ms passed ≡ refused m p → marked L ls ms rest ≡ refused m p
@@ -40,7 +40,7 @@ module _ (L : ℕ) (ls ms : List ℕ) where
 
   pub refined-above : marked L ls ms passed ≡ passed → (i : ℕ) → i < length ms → mark ms i ≡ 1 → getD ls i 0 < L
   refined-above h i inside refined =
-      let both = scan-accepted (markFault ms) 0 (numbers (length ms)) _ h in
+      let both = scan-accepted (markFault ms) 0 (numbers (length ms)) _ tt h in
       let none = ap (depthFault L ls ms) (sym (zero-add i)) ∙ scan-all (depthFault L ls ms) (λ j. j) 0 (length ms) i (both .1) inside in
       not-deep (eqb (mark ms i) 1) (getD ls i 0) (eq-eqb (mark ms i) 1 refined) (no-fault (eqb (mark ms i) 1 && leb L (getD ls i 0)) 6 0 none .0)
 

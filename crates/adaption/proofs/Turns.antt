@@ -14,7 +14,8 @@ use Rattle.leaves.specs.Leaves.{Leaf, leaf}
 use Rattle.leaves.specs.Laws.{at}
 use Rattle.adaption.specs.Adaption.{mark, joined, childrenOf, parent, merging, gives}
 use Rattle.adaption.specs.Pass.{turn, gain, stride, newLevel, newPosition, run, made}
-use Rattle.adaption.proofs.Family.{Merging, merging-is, is-merging, alone, not-so}
+use Rattle.adaption.specs.Laws.{Merging}
+use Rattle.adaption.proofs.Family.{merging-is, is-merging, alone, not-so}
 use Rattle.adaption.proofs.Gives.{gives-refined, gives-younger, gives-merged, gives-kept}
 
 module _ (n : ℕ) (positive : 0 < n) (vs : List Leaf) (ms : List ℕ) where

@@ -1,3 +1,4 @@
 pub mod Adaption
 pub mod Calls
 pub mod Pass
+pub mod Laws

@@ -6,9 +6,9 @@ use mathlib.Core.List.{List, [], _∷_}
 use Prim.Native.Nat.{ℕ, suc, _^_, _≤_, _<_}
 use lib.Dec.{leb, ltb, eqb}
 use borrow.Author.Tests.{ltb-true, ltb-false, leb-false, eqb-true, not-false, lt-ltb, le-ltb, lt-leb, eq-eqb}
-use Rattle.paper.specs.Outcome.{Outcome, refused, passed}
+use Rattle.paper.specs.Outcome.{Outcome, accepted, refused, passed}
 use Rattle.paper.proofs.Tests.{passed-by, no-fault}
-use Rattle.paper.proofs.Scan.{fault-none, never, accepted-by, carry}
+use Rattle.paper.proofs.Scan.{fault-none, never, accepted-of, accepted-by, carry}
 use Rattle.leaves.specs.Leaves.{Leaf, Place, place, begin, startOf, endOf, Covers, Valid}
 use Rattle.leaves.specs.Calls.{starts, leafFault, walked}
 
@@ -75,6 +75,17 @@ module _ (n L K : ℕ) where
     walked-passed i c (v ∷ vs) h =
         let a = accepted-by (not (eqb (leafFault n L K c v) 0)) (leafFault n L K c v) i (walked n L K (suc i) (endOf n L v) vs passed) h in
         passed-by _ (leafFault n L K c v) i _ (a .0) ∙ walked-passed (suc i) (endOf n L v) vs (a .1)
+
+    pub walked-accepted : (i : ℕ) (c : Place) (vs : List Leaf) (b : B) → walked n L K i c vs rest ≡ accepted b
+        → (walked n L K i c vs passed ≡ passed) × (rest ≡ accepted b)
+    unfolding walked
+    walked-accepted i c [] b h =
+        let a = accepted-of (not (eqb (c .root) K && eqb (c .cell) 0)) 12 i rest b h in
+        (passed-by _ 12 i passed (a .0), a .1)
+    walked-accepted i c (v ∷ vs) b h =
+        let a = accepted-of (not (eqb (leafFault n L K c v) 0)) (leafFault n L K c v) i (walked n L K (suc i) (endOf n L v) vs rest) b h in
+        let later = walked-accepted (suc i) (endOf n L v) vs b (a .1) in
+        (passed-by _ (leafFault n L K c v) i _ (a .0) ∙ later .0, later .1)
 
     pub walked-refused : (i m p : ℕ) (c : Place) (vs : List Leaf)
         → walked n L K i c vs passed ≡ refused m p → walked n L K i c vs rest ≡ refused m p

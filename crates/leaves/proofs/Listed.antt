@@ -8,13 +8,13 @@ use native.Mathlib.Omega.{arith}
 use lib.Dec.{ltb, eqb}
 use lib.ListN.{length, getD}
 use borrow.Author.Tests.{ltb-false, eqb-true, eqb-false, not-false}
-use Rattle.paper.specs.Outcome.{Outcome, refused, passed, rows}
+use Rattle.paper.specs.Outcome.{Outcome, accepted, refused, passed, rows}
 use Rattle.paper.proofs.Tests.{refused-by, passed-by, or-none}
-use Rattle.paper.proofs.Scan.{accepted-by, carry, rows-length}
+use Rattle.paper.proofs.Scan.{accepted-of, accepted-by, carry, rows-length}
 use Rattle.leaves.specs.Leaves.{leaf, leafAt, leaves, place, Valid}
 use Rattle.leaves.specs.Calls.{limit, outOfRange, equalColumns, walked, listed}
 use Rattle.leaves.specs.Laws.{at}
-use Rattle.leaves.proofs.Check.{exactly, walked-passed, walked-refused}
+use Rattle.leaves.proofs.Check.{exactly, walked-passed, walked-accepted, walked-refused}
 
 -- ---- entry i of the list that stands in three columns
 pub getD-rows : {A : Type 0} (entry : ℕ → A) (d : A) (i k j : ℕ) → j < k → getD (rows entry i k) j d ≡ entry (i + j)
@@ -91,6 +91,15 @@ module _ (n L K : ℕ) (inRange fitting : Bool) (rs ls ps : List ℕ) where
         let b = accepted-by (not rightColumns) 11 0 _ (a .1) in
         let d = accepted-by wrongLength 11 0 _ (b .1) in
         listed-on rest (a .0) (not-false rightColumns (b .0)) (d .0) ∙ walked-passed n L K rest 0 (place 0 0) (leaves rs ls ps) (d .1)
+
+    pub listed-accepted : (b : B) → listed n L K inRange fitting rs ls ps rest ≡ accepted b
+        → (listed n L K inRange fitting rs ls ps passed ≡ passed) × (rest ≡ accepted b)
+    listed-accepted b h =
+        let a = accepted-of wrongNumber 17 0 _ b h in
+        let d = accepted-of (not rightColumns) 11 0 _ b (a .1) in
+        let e = accepted-of wrongLength 11 0 _ b (d .1) in
+        let leaf-by-leaf = walked-accepted n L K rest 0 (place 0 0) (leaves rs ls ps) b (e .1) in
+        (listed-on passed (a .0) (not-false rightColumns (d .0)) (e .0) ∙ leaf-by-leaf .0, leaf-by-leaf .1)
 
     pub listed-refused : (m p : ℕ) → listed n L K inRange fitting rs ls ps passed ≡ refused m p → listed n L K inRange fitting rs ls ps rest ≡ refused m p
     listed-refused m p =

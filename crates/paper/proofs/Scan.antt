@@ -34,13 +34,16 @@ fault-taken number place rest some = simp (ne-eqb number 0 some)
 pub fault-none : {A : Type 0} (number place : ℕ) (rest : Outcome A) → number ≡ 0 → refuse-when-at (not (eqb number 0)) number place rest ≡ rest
 fault-none number place rest none = simp (eq-eqb number 0 none)
 
-pub never : {A : Type 0} (a : Unit {0}) (n p : ℕ) → _≡_ {A = Outcome (Unit {0})} (refused n p) (accepted a) → A
+pub never : {A B : Type 0} (a : B) (n p : ℕ) → _≡_ {A = Outcome B} (refused n p) (accepted a) → A
 never a n p h = absurd (let z : _≡_ {A = ℕ} 0 1 = cc in omega arith)
 
 -- an accepted outcome passed the test, and so did the rest
+pub accepted-of : {B : Type 0} (t : Bool) (n p : ℕ) (rest : Outcome B) (a : B) → refuse-when-at t n p rest ≡ accepted a → (t ≡ false) × (rest ≡ accepted a)
+accepted-of true n p rest a h = never a n p h
+accepted-of false n p rest a h = (refl, h)
+
 pub accepted-by : (t : Bool) (n p : ℕ) (rest : Outcome (Unit {0})) → refuse-when-at t n p rest ≡ passed → (t ≡ false) × (rest ≡ passed)
-accepted-by true n p rest h = never tt n p h
-accepted-by false n p rest h = (refl, h)
+accepted-by t n p rest = accepted-of t n p rest tt
 
 -- a scan that refuses does so whatever would follow
 pub carry : {B : Type 0} (t : Bool) (n p m q : ℕ) (short : Outcome (Unit {0})) (long : Outcome B) → (short ≡ refused m q → long ≡ refused m q)
@@ -52,12 +55,12 @@ carry true n p m q short long onward h =
 carry false n p m q short long onward h = onward h
 
 -- an accepted scan passed, and so did what follows it
-pub scan-accepted : {A : Type 0} (fault : A → ℕ) (i : ℕ) (es : List A) (rest : Outcome (Unit {0})) → scan fault i es rest ≡ passed
-    → (scan fault i es passed ≡ passed) × (rest ≡ passed)
-scan-accepted fault i [] rest h = (refl, h)
-scan-accepted fault i (e ∷ es) rest h =
-    let d = accepted-by (not (eqb (fault e) 0)) (fault e) i (scan fault (suc i) es rest) h in
-    let later = scan-accepted fault (suc i) es rest (d .1) in
+pub scan-accepted : {A B : Type 0} (fault : A → ℕ) (i : ℕ) (es : List A) (rest : Outcome B) (a : B) → scan fault i es rest ≡ accepted a
+    → (scan fault i es passed ≡ passed) × (rest ≡ accepted a)
+scan-accepted fault i [] rest a h = (refl, h)
+scan-accepted fault i (e ∷ es) rest a h =
+    let d = accepted-of (not (eqb (fault e) 0)) (fault e) i (scan fault (suc i) es rest) a h in
+    let later = scan-accepted fault (suc i) es rest a (d .1) in
     (passed-by _ (fault e) i (scan fault (suc i) es passed) (d .0) ∙ later .0, later .1)
 
 module _ {A B : Type 0} (fault : A → ℕ) where

@@ -45,7 +45,7 @@ returns : tie.Need-returns Inv-loop μ-loop
 returns c =
     fault-taken (c .before .leaf-fault .result) (c .before .before .before .before .before .before .loop .i) passed (c .if1 .taken)
     ∙ ap (λ (j : ℕ). refused j (c .before .before .before .before .before .before .loop .i)) (c .before .leaf-fault .ensures)
-    ∙ sym (c .before .before .before .before .before .before .loop .inv .1 ∙ walk-found (2 ^ c .before .before .before .before .before .before .before .before .before .before .args .bits) (c .before .before .before .before .before .before .before .before .before .before .args .highest) (c .before .before .before .before .before .before .before .before .before .before .args .k) passed (leafAt (c .before .before .before .before .before .before .before .before .before .before .args .roots .now) (c .before .before .before .before .before .before .before .before .before .before .args .levels .now) (c .before .before .before .before .before .before .before .before .before .before .args .positions .now)) (length (c .before .before .before .before .before .before .before .before .before .before .args .roots .now)) (c .before .before .before .before .before .before .loop .i) (placeOf (c .before .before .before .before .before .before .loop .at)) (c .before .before .before .before .before .loop-test .taken) (λ none. c .if1 .taken (c .before .leaf-fault .ensures ∙ none)))
+    ∙ sym (c .before .before .before .before .before .before .loop .inv .1 ∙ walk-found (2 ^ c .before .before .before .before .before .before .before .before .before .before .args .bits) (c .before .before .before .before .before .before .before .before .before .before .args .highest) (c .before .before .before .before .before .before .before .before .before .before .args .k) passed (leafAt (c .before .before .before .before .before .before .before .before .before .before .args .roots .now) (c .before .before .before .before .before .before .before .before .before .before .args .levels .now) (c .before .before .before .before .before .before .before .before .before .before .args .positions .now)) (length (c .before .before .before .before .before .before .before .before .before .before .args .roots .now)) (c .before .before .before .before .before .before .loop .i) (placeOf (c .before .before .before .before .before .before .loop .at)) (omega arith) (λ none. c .if1 .taken (c .before .leaf-fault .ensures ∙ none)))
 
 mul-after : tie.Need-mul-after Inv-loop μ-loop
 mul-after c = omega arith
@@ -76,16 +76,16 @@ loop-less c = omega arith
 loop-again : tie.Need-loop-again Inv-loop μ-loop
 loop-again c =
     let none = sym (c .before .before .before .before .before .leaf-fault .ensures) ∙ c .before .before .before .before .if1 .left in
-    (omega arith, c .before .before .before .before .before .before .before .before .before .before .loop .inv .1 ∙ walk-next (2 ^ c .before .before .before .before .before .before .before .before .before .before .before .before .before .before .args .bits) (c .before .before .before .before .before .before .before .before .before .before .before .before .before .before .args .highest) (c .before .before .before .before .before .before .before .before .before .before .before .before .before .before .args .k) passed (leafAt (c .before .before .before .before .before .before .before .before .before .before .before .before .before .before .args .roots .now) (c .before .before .before .before .before .before .before .before .before .before .before .before .before .before .args .levels .now) (c .before .before .before .before .before .before .before .before .before .before .before .before .before .before .args .positions .now)) (length (c .before .before .before .before .before .before .before .before .before .before .before .before .before .before .args .roots .now)) (c .before .before .before .before .before .before .before .before .before .before .loop .i) (placeOf (c .before .before .before .before .before .before .before .before .before .before .loop .at)) (c .before .before .before .before .before .before .before .before .before .loop-test .taken) none ∙ ap (λ (to : Place). walked (2 ^ c .before .before .before .before .before .before .before .before .before .before .before .before .before .before .args .bits) (c .before .before .before .before .before .before .before .before .before .before .before .before .before .before .args .highest) (c .before .before .before .before .before .before .before .before .before .before .before .before .before .before .args .k) (c .before .before .before .before .before .before .before .before .before .before .loop .i + 1) to (rows (leafAt (c .before .before .before .before .before .before .before .before .before .before .before .before .before .before .args .roots .now) (c .before .before .before .before .before .before .before .before .before .before .before .before .before .before .args .levels .now) (c .before .before .before .before .before .before .before .before .before .before .before .before .before .before .args .positions .now)) (c .before .before .before .before .before .before .before .before .before .before .loop .i + 1) ((length (c .before .before .before .before .before .before .before .before .before .before .before .before .before .before .args .roots .now)) - (c .before .before .before .before .before .before .before .before .before .before .loop .i + 1))) passed) (sym (c .after .ensures)))
+    (omega arith, c .before .before .before .before .before .before .before .before .before .before .loop .inv .1 ∙ walk-next (2 ^ c .before .before .before .before .before .before .before .before .before .before .before .before .before .before .args .bits) (c .before .before .before .before .before .before .before .before .before .before .before .before .before .before .args .highest) (c .before .before .before .before .before .before .before .before .before .before .before .before .before .before .args .k) passed (leafAt (c .before .before .before .before .before .before .before .before .before .before .before .before .before .before .args .roots .now) (c .before .before .before .before .before .before .before .before .before .before .before .before .before .before .args .levels .now) (c .before .before .before .before .before .before .before .before .before .before .before .before .before .before .args .positions .now)) (length (c .before .before .before .before .before .before .before .before .before .before .before .before .before .before .args .roots .now)) (c .before .before .before .before .before .before .before .before .before .before .loop .i) (placeOf (c .before .before .before .before .before .before .before .before .before .before .loop .at)) (omega arith) none ∙ ap (λ (to : Place). walked (2 ^ c .before .before .before .before .before .before .before .before .before .before .before .before .before .before .args .bits) (c .before .before .before .before .before .before .before .before .before .before .before .before .before .before .args .highest) (c .before .before .before .before .before .before .before .before .before .before .before .before .before .before .args .k) (c .before .before .before .before .before .before .before .before .before .before .loop .i + 1) to (rows (leafAt (c .before .before .before .before .before .before .before .before .before .before .before .before .before .before .args .roots .now) (c .before .before .before .before .before .before .before .before .before .before .before .before .before .before .args .levels .now) (c .before .before .before .before .before .before .before .before .before .before .before .before .before .before .args .positions .now)) (c .before .before .before .before .before .before .before .before .before .before .loop .i + 1) ((length (c .before .before .before .before .before .before .before .before .before .before .before .before .before .before .args .roots .now)) - (c .before .before .before .before .before .before .before .before .before .before .loop .i + 1))) passed) (sym (c .after .ensures)))
 
 returns-2 : tie.Need-returns-2 Inv-loop μ-loop
-returns-2 c = sym (c .before .before .before .loop .inv .1 ∙ walk-short-root (2 ^ c .before .before .before .before .before .before .before .args .bits) (c .before .before .before .before .before .before .before .args .highest) (c .before .before .before .before .before .before .before .args .k) passed (leafAt (c .before .before .before .before .before .before .before .args .roots .now) (c .before .before .before .before .before .before .before .args .levels .now) (c .before .before .before .before .before .before .before .args .positions .now)) (length (c .before .before .before .before .before .before .before .args .roots .now)) (c .before .before .before .loop .i) (placeOf (c .before .before .before .loop .at)) (c .before .before .loop-test .left) (c .if2 .taken))
+returns-2 c = sym (c .before .before .before .loop .inv .1 ∙ walk-short-root (2 ^ c .before .before .before .before .before .before .before .args .bits) (c .before .before .before .before .before .before .before .args .highest) (c .before .before .before .before .before .before .before .args .k) passed (leafAt (c .before .before .before .before .before .before .before .args .roots .now) (c .before .before .before .before .before .before .before .args .levels .now) (c .before .before .before .before .before .before .before .args .positions .now)) (length (c .before .before .before .before .before .before .before .args .roots .now)) (c .before .before .before .loop .i) (placeOf (c .before .before .before .loop .at)) (omega arith) (c .if2 .taken))
 
 returns-3 : tie.Need-returns-3 Inv-loop μ-loop
-returns-3 c = sym (c .before .before .before .before .before .loop .inv .1 ∙ walk-short-cell (2 ^ c .before .before .before .before .before .before .before .before .before .args .bits) (c .before .before .before .before .before .before .before .before .before .args .highest) (c .before .before .before .before .before .before .before .before .before .args .k) passed (leafAt (c .before .before .before .before .before .before .before .before .before .args .roots .now) (c .before .before .before .before .before .before .before .before .before .args .levels .now) (c .before .before .before .before .before .before .before .before .before .args .positions .now)) (length (c .before .before .before .before .before .before .before .before .before .args .roots .now)) (c .before .before .before .before .before .loop .i) (placeOf (c .before .before .before .before .before .loop .at)) (c .before .before .before .before .loop-test .left) (c .before .before .if2 .left) (c .if3 .taken))
+returns-3 c = sym (c .before .before .before .before .before .loop .inv .1 ∙ walk-short-cell (2 ^ c .before .before .before .before .before .before .before .before .before .args .bits) (c .before .before .before .before .before .before .before .before .before .args .highest) (c .before .before .before .before .before .before .before .before .before .args .k) passed (leafAt (c .before .before .before .before .before .before .before .before .before .args .roots .now) (c .before .before .before .before .before .before .before .before .before .args .levels .now) (c .before .before .before .before .before .before .before .before .before .args .positions .now)) (length (c .before .before .before .before .before .before .before .before .before .args .roots .now)) (c .before .before .before .before .before .loop .i) (placeOf (c .before .before .before .before .before .loop .at)) (omega arith) (c .before .before .if2 .left) (c .if3 .taken))
 
 returns-4 : tie.Need-returns-4 Inv-loop μ-loop
-returns-4 c = sym (c .before .before .before .before .before .loop .inv .1 ∙ walk-full (2 ^ c .before .before .before .before .before .before .before .before .before .args .bits) (c .before .before .before .before .before .before .before .before .before .args .highest) (c .before .before .before .before .before .before .before .before .before .args .k) passed (leafAt (c .before .before .before .before .before .before .before .before .before .args .roots .now) (c .before .before .before .before .before .before .before .before .before .args .levels .now) (c .before .before .before .before .before .before .before .before .before .args .positions .now)) (length (c .before .before .before .before .before .before .before .before .before .args .roots .now)) (c .before .before .before .before .before .loop .i) (placeOf (c .before .before .before .before .before .loop .at)) (c .before .before .before .before .loop-test .left) (c .before .before .if2 .left) (c .if3 .left))
+returns-4 c = sym (c .before .before .before .before .before .loop .inv .1 ∙ walk-full (2 ^ c .before .before .before .before .before .before .before .before .before .args .bits) (c .before .before .before .before .before .before .before .before .before .args .highest) (c .before .before .before .before .before .before .before .before .before .args .k) passed (leafAt (c .before .before .before .before .before .before .before .before .before .args .roots .now) (c .before .before .before .before .before .before .before .before .before .args .levels .now) (c .before .before .before .before .before .before .before .before .before .args .positions .now)) (length (c .before .before .before .before .before .before .before .before .before .args .roots .now)) (c .before .before .before .before .before .loop .i) (placeOf (c .before .before .before .before .before .loop .at)) (omega arith) (c .before .before .if2 .left) (c .if3 .left))
 
 pub walk-spec : {M : Type 1} → statement M
 walk-spec =

@@ -1,0 +1,75 @@
+-- What is promised of adaption, as statements, over the number of children and the highest level. Definitions only.
+--
+--   Merging vs ms j   "Eight consecutive leaves that are a family and all carry 2", from number j on
+--   OnePass vs ms     which leaves are refined, which merge, which are kept; the result is what they give, in order
+--   Refinable vs ms   no leaf of the highest level is marked 1
+--   Marked            the marks of N leaves are m for the k leaves from number i on, and 0 for the others
+--   Started, Step     an accepted uniform start, an accepted adaption, and the list that it gives
+--   Reached K s ws    the list ws is reached from a uniform start by s accepted adaptions, one after the other
+--   Promised          all of it
+--
+-- Assumes nothing.
+use mathlib.Core.Path.{_≡_}
+use mathlib.Core.Logic.{_↔_}
+use mathlib.Core.Bool.{Bool, true}
+use mathlib.Core.List.{List, [], _∷_, map}
+use Prim.Native.Nat.{ℕ, zero, suc, _+_, _≤_, _<_}
+use lib.ListN.{length}
+use Rattle.paper.specs.Outcome.{accepted}
+use Rattle.leaves.specs.Leaves.{Leaf, Valid}
+use Rattle.leaves.specs.Laws.{at}
+use Rattle.leaves.specs.Leaves as leaves
+use Rattle.leaves.specs.Calls as calls
+use Rattle.adaption.specs.Adaption.{mark, child, parent, childrenOf, merging, gives, adapted}
+use Rattle.adaption.specs.Calls.{adaption}
+
+pub record Marked (ms : List ℕ) (m i k N : ℕ) : Type 0 where
+  pub there : (j : ℕ) → j < N → i ≤ j → j < i + k → mark ms j ≡ m
+  pub before : (j : ℕ) → j < N → j < i → mark ms j ≡ 0
+  pub after : (j : ℕ) → j < N → i + k ≤ j → mark ms j ≡ 0
+
+module _ (n : ℕ) where
+  pub record Merging (vs : List Leaf) (ms : List ℕ) (j : ℕ) : Type 0 where
+    pub deep : 0 < at vs j .level
+    pub inside : j + n ≤ length vs
+    pub sibling : (t : ℕ) → t < n → at vs (j + t) ≡ child n (parent n (at vs j)) t
+    pub carries : (t : ℕ) → t < n → mark ms (j + t) ≡ 2
+
+  pub record OnePass (vs : List Leaf) (ms : List ℕ) : Type 0 where
+    pub exactly : (j : ℕ) → merging n vs ms j ≡ true ↔ Merging vs ms j
+    pub refined : (i : ℕ) → mark ms i ≡ 1 → gives n vs ms i ≡ childrenOf n (at vs i)
+    pub merged : (j : ℕ) → Merging vs ms j → gives n vs ms j ≡ parent n (at vs j) ∷ []
+    pub merged-too : (j t : ℕ) → Merging vs ms j → 0 < t → t < n → gives n vs ms (j + t) ≡ []
+    pub kept : (i : ℕ) → (mark ms i ≡ 1 → ⊥) → ((j : ℕ) → j ≤ i → i < j + n → Merging vs ms j → ⊥) → gives n vs ms i ≡ at vs i ∷ []
+
+  module _ (L : ℕ) where
+    abbrev pub Refinable : List Leaf → List ℕ → Type 0
+    Refinable vs ms = (i : ℕ) → i < length vs → mark ms i ≡ 1 → at vs i .level < L
+
+    pub record Started (K : ℕ) (ws : List Leaf) : Type 0 where
+      pub level : ℕ
+      pub equal : Bool
+      pub room : ℕ
+      pub size : ℕ
+      pub accepts : calls.uniform n L K level equal room ≡ accepted size
+      pub result : ws ≡ leaves.uniform n L K level
+
+    pub record Step (K : ℕ) (vs ws : List Leaf) : Type 0 where
+      pub marks : List ℕ
+      pub equal : Bool
+      pub room : ℕ
+      pub size : ℕ
+      pub accepts : adaption n L K (map (λ (v : Leaf). v .root) vs) (map (λ (v : Leaf). v .level) vs) (map (λ (v : Leaf). v .position) vs) marks equal room ≡ accepted size
+      pub result : ws ≡ adapted n vs marks
+
+    unfoldable pub Reached : ℕ → ℕ → List Leaf → Type 0
+    Reached K zero ws = Started K ws
+    Reached K (suc s) ws = (vs : List Leaf) × (Reached K s vs × Step K vs ws)
+
+    pub record Promised : Type 0 where
+      pub one-pass : (vs : List Leaf) (ms : List ℕ) → OnePass vs ms
+      pub valid : (K : ℕ) (vs : List Leaf) (ms : List ℕ) → Valid n L K vs → Refinable vs ms → Valid n L K (adapted n vs ms)
+      pub reached : (K s : ℕ) (ws : List Leaf) → Reached K s ws → Valid n L K ws
+      pub unmarked : (vs : List Leaf) (ms : List ℕ) → ((i : ℕ) → i < length vs → mark ms i ≡ 0) → adapted n vs ms ≡ vs
+      pub undone : (vs : List Leaf) (ms ms′ : List ℕ) (i : ℕ) → i < length vs → Marked ms 1 i 1 (length vs)
+          → Marked ms′ 2 i n (length (adapted n vs ms)) → adapted n (adapted n vs ms) ms′ ≡ vs
