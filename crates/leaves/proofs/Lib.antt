@@ -9,3 +9,4 @@ pub mod Shift
 pub mod Turns
 pub mod Filling
 pub mod Entries
+pub mod Ancestors

@@ -101,6 +101,12 @@ module _ (n L K : ℕ) (inRange fitting : Bool) (rs ls ps : List ℕ) where
         let leaf-by-leaf = walked-accepted n L K rest 0 (place 0 0) (leaves rs ls ps) b (e .1) in
         (listed-on passed (a .0) (not-false rightColumns (d .0)) (e .0) ∙ leaf-by-leaf .0, leaf-by-leaf .1)
 
+    pub listed-fits : (b : B) → listed n L K inRange fitting rs ls ps rest ≡ accepted b → (inRange ≡ true) × (fitting ≡ true)
+    listed-fits b h =
+        let a = accepted-of wrongNumber 17 0 _ b h in
+        let d = accepted-of (not rightColumns) 11 0 _ b (a .1) in
+        (not-false inRange (or-none (outOfRange K) (not inRange) (a .0) .1), and-eq-true-iff (equalColumns rs ls ps) fitting .0 (not-false rightColumns (d .0)) .1)
+
     pub listed-refused : (m p : ℕ) → listed n L K inRange fitting rs ls ps passed ≡ refused m p → listed n L K inRange fitting rs ls ps rest ≡ refused m p
     listed-refused m p =
         carry wrongNumber 17 0 m p _ _

@@ -1,5 +1,6 @@
 pub mod Leaves
 pub mod Calls
 pub mod Laws
+pub mod Cells
 pub mod Readings
 pub mod Start

@@ -8,7 +8,7 @@ use native.Mathlib.Nat.{add-zero, add-suc, suc-add}
 use native.Mathlib.Numerals.{add-one}
 use native.Mathlib.Omega.{arith}
 use lib.Dec.{eqb}
-use lib.ListN.{length}
+use lib.ListN.{length, getD}
 use borrow.Author.Tests.{eq-eqb, ne-eqb, eqb-true, not-false}
 use Rattle.paper.specs.Outcome.{Outcome, accepted, passed, refused, refuse-when-at, scan, rows}
 use Rattle.paper.proofs.Tests.{passed-by}
@@ -62,6 +62,16 @@ scan-accepted fault i (e ∷ es) rest a h =
     let d = accepted-of (not (eqb (fault e) 0)) (fault e) i (scan fault (suc i) es rest) a h in
     let later = scan-accepted fault (suc i) es rest a (d .1) in
     (passed-by _ (fault e) i (scan fault (suc i) es passed) (d .0) ∙ later .0, later .1)
+
+-- a scan that passed: each is without fault
+pub scan-each : {A : Type 0} (fault : A → ℕ) (i : ℕ) (es : List A) (d : A) (j : ℕ) → scan fault i es passed ≡ passed → j < length es → fault (getD es j d) ≡ 0
+scan-each fault i [] d j h below = absurd (omega arith)
+scan-each fault i (e ∷ es) d zero h below =
+    let a = accepted-by (not (eqb (fault e) 0)) (fault e) i (scan fault (suc i) es passed) h in
+    eqb-true (fault e) 0 (not-false (eqb (fault e) 0) (a .0))
+scan-each fault i (e ∷ es) d (suc j) h below =
+    let a = accepted-by (not (eqb (fault e) 0)) (fault e) i (scan fault (suc i) es passed) h in
+    scan-each fault (suc i) es d j (a .1) (omega arith)
 
 module _ {A B : Type 0} (fault : A → ℕ) where
   pub scan-passed : (i : ℕ) (es : List A) (rest : Outcome B) → scan fault i es passed ≡ passed → scan fault i es rest ≡ rest

@@ -1,2 +1,3 @@
 pub mod Demand2
 pub mod Starred
+pub mod Demand3

@@ -1,0 +1,48 @@
+-- Document 01, "Leaf lists": smallest cells as elements, over any shape. Definitions only.
+--
+--   "A smallest cell is a prism of level 21. It lies in itself and in each prism reached from it by taking parents"
+--
+--   up S k e          the element reached from e by taking parents k times
+--   LiesIn S e f      e lies in f: f is reached from e by taking parents, at most as often as there is one
+--   InLeaf S v r e    the smallest cell e of root r lies in the leaf v
+--   OneLeaf           it lies in exactly one leaf of a list
+--   CellsOnce S K vs  each smallest cell of each of the K roots does
+--   Tied S            all valid lists are so, at the shape's number of children and highest level
+--
+-- Assumes nothing.
+use mathlib.Core.Path.{_≡_}
+use mathlib.Core.List.{List}
+use Prim.Native.Nat.{ℕ, zero, suc, _≤_, _<_}
+use lib.ListN.{length}
+use Rattle.tree.specs.Shape.{Shape}
+use Rattle.tree.specs.Laws.{Sound}
+use Rattle.tree.specs.Words as words
+use Rattle.leaves.specs.Leaves.{Leaf, Valid}
+use Rattle.leaves.specs.Laws.{at}
+
+module _ {E : Type 0} (S : Shape E) where
+  unfoldable pub up : ℕ → E → E
+  up zero e = e
+  up (suc k) e = S .parent (up k e)
+
+  pub record LiesIn (e f : E) : Type 0 where
+    pub times : ℕ
+    pub parents : times ≤ S .level e
+    pub reached : up times e ≡ f
+
+  pub record InLeaf (v : Leaf) (r : ℕ) (e : E) : Type 0 where
+    pub root : v .root ≡ r
+    pub lies : LiesIn e (words.at S (v .level) (v .position))
+
+  -- exactly one: there is one, and any is that one
+  pub record OneLeaf (vs : List Leaf) (r : ℕ) (e : E) : Type 0 where
+    pub which : ℕ
+    pub inside : which < length vs
+    pub holds : InLeaf (at vs which) r e
+    pub only : (j : ℕ) → j < length vs → InLeaf (at vs j) r e → j ≡ which
+
+  abbrev pub CellsOnce : ℕ → List Leaf → Type 0
+  CellsOnce K vs = (r : ℕ) (e : E) → r < K → Sound S e → S .level e ≡ S .highest → OneLeaf vs r e
+
+  abbrev pub Tied : Type 0
+  Tied = (K : ℕ) (vs : List Leaf) → Valid (S .children) (S .highest) K vs → CellsOnce K vs

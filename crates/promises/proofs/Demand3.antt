@@ -1,0 +1,67 @@
+-- Demand 3: the cells are those of a valid list, the shares are fair, and an accepted call of shares found both. Assumes nothing.
+use mathlib.Core.Path.{_≡_, _∙_}
+use mathlib.Core.Bool.{true, not}
+use mathlib.Core.List.{List}
+use Prim.Native.Nat.{ℕ, _<_}
+use native.Mathlib.Omega.{arith}
+use lib.Dec.{ltb, eqb}
+use lib.ListN.{length, getD}
+use borrow.Author.Tests.{eqb-true, eqb-false, not-true}
+use Rattle.paper.specs.Outcome.{passed}
+use Rattle.paper.proofs.Tests.{or-none, no-fault}
+use Rattle.paper.proofs.Scan.{scan-accepted, scan-each}
+use Rattle.prism.specs.Elements.{prismTo, prism}
+use Rattle.leaves.specs.Leaves.{Leaf, leaves, Valid}
+use Rattle.leaves.specs.Calls.{outOfRange}
+use Rattle.leaves.proofs.Ancestors.{tied}
+use Rattle.leaves.proofs.Listed.{columns-sound, listed-accepted, listed-fits, leaves-length}
+use Rattle.shares.specs.Calls.{weightFault, shares}
+use Rattle.shares.specs.Laws.{Fair, Weighty}
+use Rattle.prism.proofs.Laws as prism-laws
+use Rattle.adaption.proofs.Promised as adaption-laws
+use Rattle.shares.proofs.Promised as shares-laws
+use Rattle.promises.specs.Demand3.{Divided, OfGrids}
+
+of-valid : (K P : ℕ) (vs : List Leaf) (ws : List ℕ) → Valid 8 21 K vs → 0 < length vs → length ws ≡ length vs → Weighty ws → 0 < P → Divided K P vs ws
+unfolding prismTo
+of-valid K P vs ws valid some long weighty positive = by (shares-laws.promised .fair P ws positive weighty (omega arith))
+  where
+    by : Fair P ws → Divided K P vs ws
+    by fair =
+        record {
+          owner = λ r cell root sound smallest.
+              let one = tied prism (prism-laws.lawful 21) K vs valid r cell root sound smallest in
+              record { listed = one; shared = fair .one-share (one .which) (omega (arith, one .inside)) };
+          from-none = fair .from-none;
+          rising = fair .rising;
+          to-all = fair .to-all ∙ long;
+          not-far-above = fair .not-far-above;
+          not-far-below = fair .not-far-below;
+        }
+
+-- the tests that an accepted call of shares has passed
+shares-some : (P : ℕ) → not (outOfRange P) ≡ true → 0 < P
+shares-some P right =
+    let none = eqb-false P 0 (or-none (eqb P 0) (ltb 4096 P) (not-true (outOfRange P) right) .0) in above none
+  where
+    above : {m : ℕ} → (m ≡ 0 → ⊥) → 0 < m
+    above {m} none = omega arith
+
+weight-some : (w : ℕ) → weightFault w ≡ 0 → 0 < w
+weight-some w right = above (eqb-false w 0 (no-fault (eqb w 0) 15 0 right .0))
+  where
+    above : {m : ℕ} → (m ≡ 0 → ⊥) → 0 < m
+    above {m} none = omega arith
+
+of-accepted : (K P : ℕ) (rs ls ps ws : List ℕ) (room : ℕ) → shares 8 21 K P rs ls ps ws room ≡ passed → Divided K P (leaves rs ls ps) ws
+of-accepted K P rs ls ps ws room h =
+    let inside = listed-accepted 8 21 K (not (outOfRange P)) (eqb (length rs) (length ws)) rs ls ps _ tt h in
+    let fits = listed-fits 8 21 K (not (outOfRange P)) (eqb (length rs) (length ws)) rs ls ps _ tt h in
+    let sound = columns-sound 8 21 K (not (outOfRange P)) (eqb (length rs) (length ws)) rs ls ps (inside .0) in
+    let weights = scan-accepted weightFault 0 ws _ tt (inside .1) in
+    let long = eqb-true (length rs) (length ws) (fits .1) in
+    of-valid K P (leaves rs ls ps) ws (sound .valid) (omega (arith, sound .some, leaves-length rs ls ps)) (omega (arith, long, leaves-length rs ls ps))
+    (λ j below. weight-some (getD ws j 0) (scan-each weightFault 0 ws 0 j (weights .0) below)) (shares-some P (fits .0))
+
+pub of-grids : OfGrids
+of-grids = record { of-valid = of-valid; of-reached = λ K s vs. adaption-laws.promised 8 21 (omega arith) .reached K s vs; of-accepted = of-accepted }

@@ -1,0 +1,44 @@
+-- The order's third demand: "Take any valid grid, loaded or reached by accepted adaptions from a uniform start, any weights from 1 to 65,535
+-- on its prisms, and 1 to 4,096 machines. Each smallest cell of each root prism lies in exactly one listed prism, and that prism in exactly
+-- one machine's share. Shares run along the curve without gaps. The number of machines times a share's weight differs from the whole weight
+-- by strictly less than the number of machines times the heaviest prism's weight." Definitions only.
+--
+--   Owner        a smallest cell lies in exactly one listed prism, and that prism in exactly one share
+--   Divided      the grid vs of K roots, with the weights ws, among P machines
+--   OfGrids      demand 3: of any valid grid, and of what any accepted call of shares writes; every grid that accepted adaptions reach from
+--                a uniform start is valid, and so is the grid of any accepted list call
+--
+-- Assumes nothing.
+use mathlib.Core.Path.{_≡_}
+use mathlib.Core.List.{List}
+use Prim.Native.Nat.{ℕ, _+_, _*_, _≤_, _<_}
+use lib.ListN.{length}
+use Rattle.paper.specs.Outcome.{passed}
+use Rattle.tree.specs.Laws.{Sound}
+use Rattle.prism.specs.declared.Prism.{Prism}
+use Rattle.prism.specs.Elements.{prism}
+use Rattle.leaves.specs.Leaves.{Leaf, leaves, Valid}
+use Rattle.leaves.specs.Cells.{OneLeaf}
+use Rattle.adaption.specs.Laws.{Reached}
+use Rattle.shares.specs.Shares.{total, boundary, weight, heaviest}
+use Rattle.shares.specs.Calls.{shares}
+use Rattle.shares.specs.Laws.{OneShare, Weighty}
+
+pub record Owner (P : ℕ) (vs : List Leaf) (ws : List ℕ) (r : ℕ) (cell : Prism) : Type 0 where
+  pub listed : OneLeaf prism vs r cell
+  pub shared : OneShare P ws (listed .which)
+
+pub record Divided (K P : ℕ) (vs : List Leaf) (ws : List ℕ) : Type 0 where
+  pub owner : (r : ℕ) (cell : Prism) → r < K → Sound prism cell → cell .level ≡ 21 → Owner P vs ws r cell
+  pub from-none : boundary P ws 0 ≡ 0
+  pub rising : (s : ℕ) → boundary P ws s ≤ boundary P ws (s + 1)
+  pub to-all : boundary P ws P ≡ length vs
+  pub not-far-above : (s : ℕ) → s < P → P * weight P ws s < total ws + P * heaviest ws
+  pub not-far-below : (s : ℕ) → s < P → total ws < P * weight P ws s + P * heaviest ws
+
+pub record OfGrids : Type 0 where
+  pub of-valid : (K P : ℕ) (vs : List Leaf) (ws : List ℕ) → Valid 8 21 K vs → 0 < length vs → length ws ≡ length vs → Weighty ws → 0 < P
+      → Divided K P vs ws
+  pub of-reached : (K s : ℕ) (vs : List Leaf) → Reached 8 21 K s vs → Valid 8 21 K vs
+  pub of-accepted : (K P : ℕ) (roots levels positions weights : List ℕ) (room : ℕ)
+      → shares 8 21 K P roots levels positions weights room ≡ passed → Divided K P (leaves roots levels positions) weights
