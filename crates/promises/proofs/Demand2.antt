@@ -26,7 +26,14 @@ use Rattle.prism.specs.declared.PrismAnswer.{PrismAnswer}
 use Rattle.paper.specs.declared.NumberAnswer.{NumberAnswer}
 use Rattle.paper.specs.declared.TruthAnswer.{TruthAnswer}
 use Rattle.paper.specs.declared.OrderAnswer.{OrderAnswer}
-use Rattle.paper.specs.Readings.{valueOf, truthOf, orderOf}
+use Rattle.paper.specs.declared.PassAnswer.{PassAnswer}
+use Rattle.paper.specs.Readings.{valueOf, truthOf, orderOf, passOf}
+use Rattle.leaves.proofs.Checked.{checked}
+use Rattle.leaves.proofs.Ancestors.{tied}
+use Rattle.balance.proofs.Exactly.{exact}
+use Rattle.adaption.proofs.Promised as adaption-laws
+use Rattle.shares.proofs.Promised as shares-laws
+use native.Mathlib.Omega.{arith}
 use Rattle.line.proofs.Laws as line-laws
 use Rattle.triangle.proofs.Laws as triangle-laws
 use Rattle.prism.proofs.Laws as prism-laws
@@ -36,13 +43,14 @@ use Rattle.prism.specs.Points as prism-points
 use Rattle.line.specs.declared.LineAnswer.the-variants as line-answer
 use Rattle.triangle.specs.declared.TriangleAnswer.the-variants as triangle-answer
 use Rattle.prism.specs.declared.PrismAnswer.the-variants as prism-answer
-use Rattle.paper.specs.declared.NumberAnswer.the-variants as position-answer
-use Rattle.paper.specs.declared.TruthAnswer.the-variants as family-answer
+use Rattle.paper.specs.declared.NumberAnswer.the-variants as number-answer
+use Rattle.paper.specs.declared.TruthAnswer.the-variants as truth-answer
 use Rattle.paper.specs.declared.OrderAnswer.the-variants as order-answer
+use Rattle.paper.specs.declared.PassAnswer.the-variants as pass-answer
 use Rattle.line.specs.Elements as lines
 use Rattle.triangle.specs.Elements as triangles
 use Rattle.prism.specs.Elements as prisms
-use Rattle.promises.specs.Demand2.{Elements, Determined, OfElements}
+use Rattle.promises.specs.Demand2.{Elements, Determined, OfElements, OfLists}
 
 elements : {E P : Type 0} (S : Shape E) (index : E → ℕ) (points : E → ℕ → List P) (faceAcross : ℕ → ℕ)
     → Lawful S → Ranked S index → Faces S points faceAcross → Elements S index points faceAcross
@@ -87,19 +95,29 @@ prism-elements = determined-by prisms.elementOf (answer prism-answer.Is prism-an
     undo (prism-answer.Is e) = refl
     undo (prism-answer.Refused n p) = refl
 
-position-answers : Determined valueOf
-position-answers = determined-by valueOf (answer position-answer.Is position-answer.Refused) undo
+number-answers : Determined valueOf
+number-answers = determined-by valueOf (answer number-answer.Is number-answer.Refused) undo
   where
-    undo : (r : NumberAnswer) → answer position-answer.Is position-answer.Refused (valueOf r) ≡ r
-    undo (position-answer.Is p) = refl
-    undo (position-answer.Refused n p) = refl
+    undo : (r : NumberAnswer) → answer number-answer.Is number-answer.Refused (valueOf r) ≡ r
+    undo (number-answer.Is p) = refl
+    undo (number-answer.Refused n p) = refl
 
-family-answers : Determined truthOf
-family-answers = determined-by truthOf (answer family-answer.Is family-answer.Refused) undo
+truth-answers : Determined truthOf
+truth-answers = determined-by truthOf (answer truth-answer.Is truth-answer.Refused) undo
   where
-    undo : (r : TruthAnswer) → answer family-answer.Is family-answer.Refused (truthOf r) ≡ r
-    undo (family-answer.Is b) = refl
-    undo (family-answer.Refused n p) = refl
+    undo : (r : TruthAnswer) → answer truth-answer.Is truth-answer.Refused (truthOf r) ≡ r
+    undo (truth-answer.Is b) = refl
+    undo (truth-answer.Refused n p) = refl
+
+abbrev passing : Unit {0} → PassAnswer
+passing u = pass-answer.Passed
+
+pass-answers : Determined passOf
+pass-answers = determined-by passOf (answer passing pass-answer.Refused) undo
+  where
+    undo : (r : PassAnswer) → answer passing pass-answer.Refused (passOf r) ≡ r
+    undo pass-answer.Passed = refl
+    undo (pass-answer.Refused n p) = refl
 
 abbrev ordered : Order → OrderAnswer
 ordered less = order-answer.Less
@@ -123,5 +141,15 @@ of-elements =
       of-prisms = elements prism (prismIndex 21) (prism-points.facePoints 21) prism-points.faceAcross (prism-laws.lawful 21) (prism-ranked 21) (prism-faces 21);
       children-are-bey's = bey 21;
       faces-by-definition-27 = definition-27 21;
-      determined = record { line-elements = line-elements; triangle-elements = triangle-elements; prism-elements = prism-elements; positions = position-answers; families = family-answers; orders = order-answers };
+      determined = record { line-elements = line-elements; triangle-elements = triangle-elements; prism-elements = prism-elements; numbers = number-answers; truths = truth-answers; orders = order-answers; passes = pass-answers };
+    }
+
+pub of-lists : OfLists
+of-lists =
+    record {
+      checked = checked 8 21 (omega arith);
+      cells = tied prism (prism-laws.lawful 21);
+      adapted = adaption-laws.promised 8 21 (omega arith);
+      shared = shares-laws.promised;
+      balanced = exact;
     }

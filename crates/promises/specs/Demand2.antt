@@ -3,18 +3,25 @@
 --
 --   Elements      what is promised of one shape, with its index and its faces
 --   Determined f  two answers with the same reading are the same answer
---   OfElements    demand 2, of the elements of all three shapes; lists, files and points have their own
+--   OfElements    demand 2, of the elements of all three shapes
+--   OfLists       demand 2, of leaf lists: the list check is exact, each smallest cell lies in one leaf, adaption is the paper's one pass,
+--                 boundaries are the paper's, balanced is the paper's; files and points have their own
 --
 -- Assumes nothing.
 use mathlib.Core.Path.{_≡_}
 use mathlib.Core.List.{List}
 use Prim.Native.Nat.{ℕ}
-use Rattle.paper.specs.Readings.{valueOf, truthOf, orderOf}
+use Rattle.paper.specs.Readings.{valueOf, truthOf, orderOf, passOf}
 use Rattle.tree.specs.Shape.{Shape}
 use Rattle.tree.specs.Laws.{Lawful, RoundTrips, Positions, TotalOrder, Families, Faces}
 use Rattle.triangle.specs.Points.{Bey}
 use Rattle.index.specs.Index.{lineIndex, triangleIndex, prismIndex}
 use Rattle.index.specs.Rank.{Ranked}
+use Rattle.leaves.specs.Laws.{Checked}
+use Rattle.leaves.specs.Cells.{Tied}
+use Rattle.balance.specs.Balance.{Exact}
+use Rattle.adaption.specs.Laws as adaption
+use Rattle.shares.specs.Laws as shares
 use Rattle.line.specs.Elements as lines
 use Rattle.triangle.specs.Elements as triangles
 use Rattle.prism.specs.Elements as prisms
@@ -38,9 +45,10 @@ pub record Answers : Type 0 where
   pub line-elements : Determined lines.elementOf
   pub triangle-elements : Determined triangles.elementOf
   pub prism-elements : Determined prisms.elementOf
-  pub positions : Determined valueOf
-  pub families : Determined truthOf
+  pub numbers : Determined valueOf
+  pub truths : Determined truthOf
   pub orders : Determined orderOf
+  pub passes : Determined passOf
 
 pub record OfElements : Type 0 where
   pub of-lines : Elements lines.line lineIndex (line-points.facePoints 21) line-points.faceAcross
@@ -49,3 +57,10 @@ pub record OfElements : Type 0 where
   pub children-are-bey's : Bey 21
   pub faces-by-definition-27 : prism-points.Definition27 21
   pub determined : Answers
+
+pub record OfLists : Type 0 where
+  pub checked : Checked 8 21
+  pub cells : Tied prisms.prism
+  pub adapted : adaption.Promised 8 21
+  pub shared : shares.Promised
+  pub balanced : Exact

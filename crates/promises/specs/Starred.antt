@@ -7,20 +7,29 @@
 --
 -- Assumes nothing.
 use mathlib.Core.Path.{_≡_}
-use mathlib.Core.List.{List, [], _∷_}
+use mathlib.Core.List.{List, [], _∷_, _++_}
 use Prim.Native.Nat.{ℕ}
+use lib.ListN.{replicate}
 use Rattle.paper.specs.Outcome.{Outcome, accepted, refused}
 use Rattle.prism.specs.declared.Prism.{Prism}
 use Rattle.prism.specs.Elements.{prism}
+use Rattle.leaves.specs.Leaves.{Leaf, uniform}
+use Rattle.adaption.specs.Adaption.{adapted}
+use Rattle.adaption.specs.Pass.{run}
+use Rattle.shares.specs.Shares as shares
 use Rattle.tree.specs.Calls
 
 pub data Case : Type 0 where
   element : Outcome Prism → Outcome Prism → Case
   number : Outcome ℕ → Outcome ℕ → Case
+  list : List Leaf → List Leaf → Case
+  boundaries : List ℕ → List ℕ → Case
 
 abbrev pub Holds : Case → Type 0
 Holds (element given said) = given ≡ said
 Holds (number given said) = given ≡ said
+Holds (list given said) = given ≡ said
+Holds (boundaries given said) = given ≡ said
 
 abbrev pub AllHold : List Case → Type 0
 AllHold [] = Unit {0}
@@ -35,6 +44,13 @@ G = 524288
 -- level l, (x, y, z, type)
 abbrev is : ℕ → ℕ → ℕ → ℕ → ℕ → Prism
 is l x y z t = record { x = x; y = y; z = z; level = l; kind = t }
+
+-- the leaves of root 0 that a file's runs stand for: level 1 from position 0 to 7; and with leaf 2 refined
+abbrev level1 : List Leaf
+level1 = run 0 1 0 8
+
+abbrev refined2 : List Leaf
+refined2 = run 0 1 0 2 ++ run 0 2 16 8 ++ run 0 1 3 5
 
 unfoldable pub starred : List Case
 starred =
@@ -59,4 +75,11 @@ starred =
     ∷ element (Calls.at prism 1 7) (accepted (is 1 H H H 0))
     ∷ element (Calls.successor prism (is 1 H H H 0)) (refused 9 0)
     ∷ element (Calls.parent prism (is 0 0 0 0 0)) (refused 6 0)
+    -- Uniform K=1, level 1 (eight leaves of level 1). Refining leaf 2 (two of level 1, eight of level 2, five of level 1). All marked 2
+    -- next: the first again. The files themselves join with the grid file.
+    ∷ list (uniform 8 21 1 1) level1
+    ∷ list (adapted 8 level1 (0 ∷ 0 ∷ 1 ∷ 0 ∷ 0 ∷ 0 ∷ 0 ∷ 0 ∷ [])) refined2
+    ∷ list (adapted 8 refined2 (replicate 15 2)) level1
+    -- Weights 1, 1, 1, 5 on four roots, P=2: boundaries 0, 3, 4.
+    ∷ boundaries (shares.boundaries 2 (1 ∷ 1 ∷ 1 ∷ 5 ∷ [])) (0 ∷ 3 ∷ 4 ∷ [])
     ∷ []
