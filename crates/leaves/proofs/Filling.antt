@@ -21,15 +21,6 @@ module _ (b level : ℕ) (roots levels positions : List ℕ) where
   filled-none = record { in-roots = refl; in-levels = refl; in-positions = refl }
 
   module _ (i : ℕ) (rs ls ps : List ℕ) (f : Filled b level i roots levels positions rs ls ps) where
-    pub roots-long : i ≤ length roots → length rs ≡ length roots
-    roots-long room = ap length (f .in-roots) ∙ front-length (λ j. j / 2 ^ b) roots i room
-
-    pub levels-long : i ≤ length levels → length ls ≡ length levels
-    levels-long room = ap length (f .in-levels) ∙ front-length (λ j. level) levels i room
-
-    pub positions-long : i ≤ length positions → length ps ≡ length positions
-    positions-long room = ap length (f .in-positions) ∙ front-length (λ j. j % 2 ^ b) positions i room
-
     pub filled-more : i < length roots → i < length levels → i < length positions
         → Filled b level (i + 1) roots levels positions (set rs i (i / 2 ^ b)) (set ls i level) (set ps i (i % 2 ^ b))
     filled-more in-r in-l in-p =
@@ -38,3 +29,14 @@ module _ (b level : ℕ) (roots levels positions : List ℕ) where
           in-levels = ap (λ (l : List ℕ). set l i level) (f .in-levels) ∙ front-more (λ j. level) levels i in-l;
           in-positions = ap (λ (l : List ℕ). set l i (i % 2 ^ b)) (f .in-positions) ∙ front-more (λ j. j % 2 ^ b) positions i in-p;
         }
+
+-- the columns stay as long as they were
+module _ {b level i : ℕ} {roots levels positions rs ls ps : List ℕ} (f : Filled b level i roots levels positions rs ls ps) where
+  pub roots-long : i ≤ length roots → length rs ≡ length roots
+  roots-long room = ap length (f .in-roots) ∙ front-length (λ j. j / 2 ^ b) roots i room
+
+  pub levels-long : i ≤ length levels → length ls ≡ length levels
+  levels-long room = ap length (f .in-levels) ∙ front-length (λ j. level) levels i room
+
+  pub positions-long : i ≤ length positions → length ps ≡ length positions
+  positions-long room = ap length (f .in-positions) ∙ front-length (λ j. j % 2 ^ b) positions i room

@@ -7,7 +7,7 @@ use Rattle.tree.proofs.off_grid.Statement.{statement}
 use Rattle.tree.proofs.off_grid.Tie as tie
 
 returns : tie.Need-returns
-returns c = simp (le-leb _ _ (c .if1 .taken))
+returns c = simp (le-leb 2097152 (c .before .args .x) (c .if1 .taken))
 
 rounded-requires : tie.Need-rounded-requires
 rounded-requires c κs = search needs

@@ -29,17 +29,13 @@ mul-roots c = omega (arith, c .before .before .pre .1 .0)
 
 slice-write-roots : tie.Need-slice-write-roots Inv-loop μ-loop
 slice-write-roots c =
-    let r = roots-long (c .before .before .args .bits) (c .before .before .args .level) (c .before .before .args .roots .now) (c .before .before .args .levels .now) (c .before .before .args .positions .now) (c .before .loop .i) (c .before .loop .roots) (c .before .loop .levels) (c .before .loop .positions) (c .before .loop .inv .1) (omega (arith, c .before .before .pre .1 .1 .1 .0)) in
-    let l = levels-long (c .before .before .args .bits) (c .before .before .args .level) (c .before .before .args .roots .now) (c .before .before .args .levels .now) (c .before .before .args .positions .now) (c .before .loop .i) (c .before .loop .roots) (c .before .loop .levels) (c .before .loop .positions) (c .before .loop .inv .1) (omega (arith, c .before .before .pre .1 .1 .1 .1 .0)) in
-    let p = positions-long (c .before .before .args .bits) (c .before .before .args .level) (c .before .before .args .roots .now) (c .before .before .args .levels .now) (c .before .before .args .positions .now) (c .before .loop .i) (c .before .loop .roots) (c .before .loop .levels) (c .before .loop .positions) (c .before .loop .inv .1) (omega (arith, c .before .before .pre .1 .1 .1 .1 .1)) in
-    omega (arith, c .before .before .pre .1 .1 .1 .0)
+    let long = roots-long (c .before .loop .inv .1) (omega (arith, (c .before .before .pre .1 .1 .1 .0))) in
+    omega (arith, (c .before .before .pre .1 .1 .1 .0))
 
 slice-write-levels : tie.Need-slice-write-levels Inv-loop μ-loop
 slice-write-levels c =
-    let r = roots-long (c .before .before .args .bits) (c .before .before .args .level) (c .before .before .args .roots .now) (c .before .before .args .levels .now) (c .before .before .args .positions .now) (c .before .loop .i) (c .before .loop .roots) (c .before .loop .levels) (c .before .loop .positions) (c .before .loop .inv .1) (omega (arith, c .before .before .pre .1 .1 .1 .0)) in
-    let l = levels-long (c .before .before .args .bits) (c .before .before .args .level) (c .before .before .args .roots .now) (c .before .before .args .levels .now) (c .before .before .args .positions .now) (c .before .loop .i) (c .before .loop .roots) (c .before .loop .levels) (c .before .loop .positions) (c .before .loop .inv .1) (omega (arith, c .before .before .pre .1 .1 .1 .1 .0)) in
-    let p = positions-long (c .before .before .args .bits) (c .before .before .args .level) (c .before .before .args .roots .now) (c .before .before .args .levels .now) (c .before .before .args .positions .now) (c .before .loop .i) (c .before .loop .roots) (c .before .loop .levels) (c .before .loop .positions) (c .before .loop .inv .1) (omega (arith, c .before .before .pre .1 .1 .1 .1 .1)) in
-    omega (arith, c .before .before .pre .1 .1 .1 .1 .0)
+    let long = levels-long (c .before .loop .inv .1) (omega (arith, (c .before .before .pre .1 .1 .1 .1 .0))) in
+    omega (arith, (c .before .before .pre .1 .1 .1 .1 .0))
 
 shl-positions : tie.Need-shl-positions Inv-loop μ-loop
 shl-positions c = c .before .before .pre .0
@@ -54,10 +50,8 @@ mul-positions c = omega (arith, c .before .before .pre .1 .0)
 
 slice-write-positions : tie.Need-slice-write-positions Inv-loop μ-loop
 slice-write-positions c =
-    let r = roots-long (c .before .before .args .bits) (c .before .before .args .level) (c .before .before .args .roots .now) (c .before .before .args .levels .now) (c .before .before .args .positions .now) (c .before .loop .i) (c .before .loop .roots) (c .before .loop .levels) (c .before .loop .positions) (c .before .loop .inv .1) (omega (arith, c .before .before .pre .1 .1 .1 .0)) in
-    let l = levels-long (c .before .before .args .bits) (c .before .before .args .level) (c .before .before .args .roots .now) (c .before .before .args .levels .now) (c .before .before .args .positions .now) (c .before .loop .i) (c .before .loop .roots) (c .before .loop .levels) (c .before .loop .positions) (c .before .loop .inv .1) (omega (arith, c .before .before .pre .1 .1 .1 .1 .0)) in
-    let p = positions-long (c .before .before .args .bits) (c .before .before .args .level) (c .before .before .args .roots .now) (c .before .before .args .levels .now) (c .before .before .args .positions .now) (c .before .loop .i) (c .before .loop .roots) (c .before .loop .levels) (c .before .loop .positions) (c .before .loop .inv .1) (omega (arith, c .before .before .pre .1 .1 .1 .1 .1)) in
-    omega (arith, c .before .before .pre .1 .1 .1 .1 .1)
+    let long = positions-long (c .before .loop .inv .1) (omega (arith, (c .before .before .pre .1 .1 .1 .1 .1))) in
+    omega (arith, (c .before .before .pre .1 .1 .1 .1 .1))
 
 add-i : tie.Need-add-i Inv-loop μ-loop
 add-i c = omega (arith, c .before .before .pre .1 .0)
@@ -75,13 +69,13 @@ loop-again c =
     )
 
 same-length : tie.Need-same-length Inv-loop μ-loop
-same-length c = roots-long (c .before .before .args .bits) (c .before .before .args .level) (c .before .before .args .roots .now) (c .before .before .args .levels .now) (c .before .before .args .positions .now) (c .before .loop .i) (c .before .loop .roots) (c .before .loop .levels) (c .before .loop .positions) (c .before .loop .inv .1) (omega (arith, c .before .before .pre .1 .1 .1 .0))
+same-length c = roots-long (c .before .loop .inv .1) (omega (arith, (c .before .before .pre .1 .1 .1 .0)))
 
 same-length-2 : tie.Need-same-length-2 Inv-loop μ-loop
-same-length-2 c = levels-long (c .before .before .args .bits) (c .before .before .args .level) (c .before .before .args .roots .now) (c .before .before .args .levels .now) (c .before .before .args .positions .now) (c .before .loop .i) (c .before .loop .roots) (c .before .loop .levels) (c .before .loop .positions) (c .before .loop .inv .1) (omega (arith, c .before .before .pre .1 .1 .1 .1 .0))
+same-length-2 c = levels-long (c .before .loop .inv .1) (omega (arith, (c .before .before .pre .1 .1 .1 .1 .0)))
 
 same-length-3 : tie.Need-same-length-3 Inv-loop μ-loop
-same-length-3 c = positions-long (c .before .before .args .bits) (c .before .before .args .level) (c .before .before .args .roots .now) (c .before .before .args .levels .now) (c .before .before .args .positions .now) (c .before .loop .i) (c .before .loop .roots) (c .before .loop .levels) (c .before .loop .positions) (c .before .loop .inv .1) (omega (arith, c .before .before .pre .1 .1 .1 .1 .1))
+same-length-3 c = positions-long (c .before .loop .inv .1) (omega (arith, (c .before .before .pre .1 .1 .1 .1 .1)))
 
 returns : tie.Need-returns Inv-loop μ-loop
 returns c =
