@@ -3,11 +3,11 @@
 use std::fmt;
 
 /// Why a call was refused: a number of the table in `gwerniloc.h`, and a place. The place is 0, except that
-/// `compare` and `family` give the index of the element at fault, `check_list` that of the leaf, and refusal 14 of
-/// `uniform` how many entries the columns need.
+/// `compare` and `family` give the index of the element at fault, the list calls that of the leaf, and refusal 14 gives
+/// how many entries the columns need.
 #[derive(Clone, Copy, Debug, PartialEq, Eq, Hash)]
 pub struct Refusal {
-    /// The number, 1 to 12, 14, 15 or 17.
+    /// The number, 1 to 17.
     pub number: u8,
     /// The place.
     pub place: u64,

@@ -6,7 +6,8 @@
 //! 2 anchor 2^21 or more or no multiple of the side, 3 type above 1, 4 outside the root. A line has only 1 and 2.
 //!
 //! [`plain`] has the same calls once more, unproved. It is the second opinion of the tests and the yardstick of the
-//! benchmark; programs use the methods of the three types, [`check_list`] and [`uniform`].
+//! benchmark; programs use the methods of the three types, [`check_list`], [`uniform`], [`adapt`], [`balanced`] and
+//! [`shares`].
 
 #![warn(missing_docs)]
 
@@ -14,9 +15,11 @@ use std::cmp::Ordering;
 
 mod answer;
 mod ffi;
+mod lists;
 pub mod plain;
 
 pub use answer::{Answer, Refusal};
+pub use lists::{adapt, balanced, check_list, shares, uniform};
 
 /// The highest level of all three shapes.
 pub const HIGHEST_LEVEL: u8 = 21;
@@ -24,7 +27,7 @@ pub const HIGHEST_LEVEL: u8 = 21;
 /// The most leaves that a list may have.
 pub const MOST_LEAVES: usize = 1_048_576;
 
-/// The most roots that a list may have.
+/// The most roots that a list may have, and the most shares.
 pub const MOST_ROOTS: u16 = 4_096;
 
 /// A line from `x` to `x` plus its side, 2^(21 - level).
@@ -209,54 +212,4 @@ impl Prism {
         };
         answer.result().map(|yes| yes == 1)
     }
-}
-
-/// Whether the leaves in the columns are a valid list of the given number of roots: the first starts root 0, each later
-/// one starts where the one before it ended (after the end of a root, at the start of the next), and the last ends the
-/// last root.
-///
-/// Refuses: 17 roots outside 1 to 4,096; 11 columns of unequal length, no leaf, or more than 1,048,576; then each leaf
-/// in turn, place = its index: 1 level above 21, 5 position not below 8^level, 12 it does not start there, which is any
-/// leaf after the last root's end; last 12 for a list that ends early, place = its length.
-pub fn check_list(roots: u16, root: &[u16], level: &[u8], position: &[u64]) -> Result<(), Refusal> {
-    // Safe as the calls above are: any values, each column read within its length, no pointer kept.
-    Refusal::from_c(unsafe {
-        ffi::gw_list_check(
-            roots,
-            root.as_ptr(),
-            root.len(),
-            level.as_ptr(),
-            level.len(),
-            position.as_ptr(),
-            position.len(),
-        )
-    })
-}
-
-/// A uniform start: writes the leaves of the given number of roots, all at one level, at the front of the columns, and
-/// nothing behind them. Gives how many leaves, roots * 8^level. They are a valid list of these roots.
-///
-/// Refuses: 17 roots outside 1 to 4,096; 11 columns of unequal length; 1 level above 21; 15 more than 1,048,576 leaves;
-/// 14 columns shorter than the leaves, place = how many entries they need. A refused start writes nothing.
-pub fn uniform(
-    roots: u16,
-    level: u8,
-    root: &mut [u16],
-    leaf_level: &mut [u8],
-    position: &mut [u64],
-) -> Result<u64, Refusal> {
-    // Safe as the calls above are: any values, each column written within its length, no pointer kept.
-    let answer = unsafe {
-        ffi::gw_list_uniform(
-            roots,
-            level,
-            root.as_mut_ptr(),
-            root.len(),
-            leaf_level.as_mut_ptr(),
-            leaf_level.len(),
-            position.as_mut_ptr(),
-            position.len(),
-        )
-    };
-    answer.result()
 }

@@ -1,7 +1,8 @@
 -- A run of leaves stored from an index on: one leaf more in each of three columns. Assumes nothing.
-use mathlib.Core.Path.{_≡_, refl, ap, _∙_, sym}
+use mathlib.Core.Path.{_≡_, refl, ap, _∙_, sym, subst, subst⁻¹}
 use mathlib.Core.List.{List, map}
 use Prim.Native.Nat.{ℕ, _+_}
+use native.Mathlib.Nat.{add-zero}
 use lib.ListN.{length, set}
 use lib.Seq.{sets, length-sets}
 use Rattle.paper.proofs.Front.{map-rows, run-more}
@@ -28,6 +29,16 @@ module _ (at r l p : ℕ) where
           in-levels = column-more (λ (v : Leaf). v .level) t levels ls (f .in-levels);
           in-positions = column-more (λ (v : Leaf). v .position) t positions ps (f .in-positions);
         }
+
+-- one leaf alone
+pub laid-one : (at r l p g : ℕ) (rs ls ps : List ℕ) → g ≡ 1 → Ran at (run r l p g) rs ls ps (set rs at r) (set ls at l) (set ps at p)
+laid-one at r l p g rs ls ps one =
+    subst⁻¹ (λ (k : ℕ). Ran at (run r l p k) rs ls ps (set rs at r) (set ls at l) (set ps at p)) one
+    (record { in-roots = refl; in-levels = refl; in-positions = ap (set ps at) (sym (add-zero p)) })
+
+-- a whole family of children
+pub laid-all : (r l p : ℕ) {at : ℕ} {rs ls ps rs′ ls′ ps′ : List ℕ} (k g : ℕ) → k ≡ g → Ran at (run r l p k) rs ls ps rs′ ls′ ps′ → Ran at (run r l p g) rs ls ps rs′ ls′ ps′
+laid-all r l p {at} {rs} {ls} {ps} {rs′} {ls′} {ps′} k g e f = subst (λ (m : ℕ). Ran at (run r l p m) rs ls ps rs′ ls′ ps′) e f
 
 -- the columns stay as long as they were
 module _ {at : ℕ} {vs : List Leaf} {roots levels positions rs ls ps : List ℕ} (f : Ran at vs roots levels positions rs ls ps) where

@@ -1,12 +1,15 @@
 -- A check of the leaves by their numbers, as a loop meets them: none so far, one at fault, none at all. Assumes nothing.
-use mathlib.Core.Path.{_≡_, ap, _∙_, sym}
+use mathlib.Core.Path.{_≡_, refl, ap, _∙_, sym, subst⁻¹}
 use mathlib.Core.List.{List}
-use Prim.Native.Nat.{ℕ, suc, _+_, _-_, _≤_, _<_}
+use Prim.Native.Nat.{ℕ, zero, suc, _+_, _-_, _≤_, _<_}
 use native.Mathlib.Nat.{sub-zero}
+use native.Mathlib.Decide.{ℕ-discrete}
 use native.Mathlib.Omega.{arith}
+use lib.ListN.{length}
 use Rattle.paper.specs.Outcome.{refused, passed, checks, scan, rows}
-use Rattle.paper.proofs.Scan.{scan-step, scan-found, rows-done}
-use Rattle.adaption.specs.Calls.{numbers}
+use Rattle.paper.proofs.Scan.{scan-step, scan-found, scan-passed, fault-none, rows-done}
+use Rattle.adaption.specs.Calls.{markFault, depthFault, numbers, marked}
+use Rattle.adaption.specs.Pass.{Faultless}
 
 module _ (fault : ℕ → ℕ) (m : ℕ) where
   -- the leaves before number i are without fault
@@ -25,3 +28,27 @@ module _ (fault : ℕ → ℕ) (m : ℕ) where
 
   pub sound-all : (i : ℕ) → m ≤ i → Sound-to i → passed ≡ checks fault (numbers m)
   sound-all i past so-far = sym (so-far ∙ ap (λ (es : List ℕ). scan fault i es passed) (rows-done (λ j. j) m i past))
+
+-- ---- no fault among the first marks
+module _ (L : ℕ) (ls ms : List ℕ) where
+  pub faultless-none : Faultless L ls ms 0 0
+  faultless-none none j before = absurd (omega arith)
+
+  pub faultless-more : (i most here next : ℕ) → Faultless L ls ms i most → (here ≡ 0 → (markFault ms i ≡ 0) × (depthFault L ls ms i ≡ 0))
+      → (next ≡ 0 → (most ≡ 0) × (here ≡ 0)) → Faultless L ls ms (i + 1) next
+  faultless-more i most here next so-far this both none j before = by (ℕ-discrete j i)
+    where
+      by : Dec (j ≡ i) → (markFault ms j ≡ 0) × (depthFault L ls ms j ≡ 0)
+      by (yes last) = subst⁻¹ (λ (k : ℕ). (markFault ms k ≡ 0) × (depthFault L ls ms k ≡ 0)) last (this (both none .1))
+      by (no earlier) = so-far (both none .0) j (omega arith)
+
+-- a check in which no number has a fault
+pub all-sound : (fault : ℕ → ℕ) (m i k : ℕ) → i + k ≡ m → ((j : ℕ) → j < m → fault j ≡ 0) → scan fault i (rows (λ j. j) i k) passed ≡ passed
+all-sound fault m i zero e none = refl
+all-sound fault m i (suc k) e none =
+    fault-none (fault i) i (scan fault (suc i) (rows (λ j. j) (suc i) k) passed) (none i (omega arith)) ∙ all-sound fault m (suc i) k (omega arith) none
+
+pub faultless-marks : (L : ℕ) (ls ms : List ℕ) → Faultless L ls ms (length ms) 0 → passed ≡ marked L ls ms passed
+faultless-marks L ls ms faultless =
+    sym (scan-passed (markFault ms) 0 (numbers (length ms)) _ (all-sound (markFault ms) (length ms) 0 (length ms) (omega arith) (λ j before. faultless refl j before .0))
+    ∙ all-sound (depthFault L ls ms) (length ms) 0 (length ms) (omega arith) (λ j before. faultless refl j before .1))

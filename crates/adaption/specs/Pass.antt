@@ -9,7 +9,8 @@
 --   made vs ms i     what the turn at leaf i makes
 --   Ready            what the pass needs of a list and its marks: n leaves of one level, from a position divisible by n on, are a family;
 --                    no level or position that it makes is too large for its type
---   Ran, Passed      the contracts of the loops: what stands in three columns after a run, and after the whole pass
+--   Faultless        the contract of the loop over the marks: its answer is 0 only where the first k marks have no fault
+--   Ran, Passed      the contracts of the loops that write: what stands in three columns after a run, and after the whole pass
 --
 -- Assumes nothing.
 use mathlib.Core.Path.{_≡_}
@@ -24,6 +25,7 @@ use Rattle.paper.specs.Memory.{written}
 use Rattle.leaves.specs.Leaves.{Leaf, leaf}
 use Rattle.leaves.specs.Laws.{at}
 use Rattle.adaption.specs.Adaption.{mark, child, parent, merging}
+use Rattle.adaption.specs.Calls.{markFault, depthFault}
 
 abbrev pub newLevel : ℕ → ℕ → ℕ
 newLevel t l = cond (eqb t 1) (l + 1) (cond (eqb t 2) (l - 1) l)
@@ -55,6 +57,9 @@ module _ (n : ℕ) where
     pub low : (i : ℕ) → i < length vs → at vs i .position < 2 ^ 63
     pub shallow : (i : ℕ) → i < length vs → mark ms i ≡ 1 → at vs i .level < 255
     pub narrow : (i : ℕ) → i < length vs → mark ms i ≡ 1 → n * at vs i .position + n ≤ 2 ^ 63
+
+abbrev pub Faultless : ℕ → List ℕ → List ℕ → ℕ → ℕ → Type 0
+Faultless L ls ms k r = r ≡ 0 → (j : ℕ) → j < k → (markFault ms j ≡ 0) × (depthFault L ls ms j ≡ 0)
 
 pub record Ran (at : ℕ) (vs : List Leaf) (roots levels positions roots′ levels′ positions′ : List ℕ) : Type 0 where
   pub in-roots : roots′ ≡ sets roots at (map (λ (v : Leaf). v .root) vs)

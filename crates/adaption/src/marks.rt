@@ -2,22 +2,66 @@
 use paper::Fault;
 ghost use mathlib.Core.Path.{_≡_};
 ghost use mathlib.Core.Bool.{_&&_};
-ghost use lib.Dec.{leb, eqb};
+ghost use lib.Dec.{leb, ltb, eqb};
 ghost use lib.ListN.{length};
-ghost use Rattle.paper.specs.Outcome.{checks, passed};
+ghost use Rattle.paper.specs.Outcome.{checks, passed, fault-when};
 ghost use Rattle.paper.specs.Readings.{checksOf};
 ghost use Rattle.adaption.specs.Calls.{markFault, depthFault, numbers, marked};
+ghost use Rattle.adaption.specs.Pass.{Faultless};
 
 // The first fault of the marks: 13 at any leaf, then 7.
 pub(crate) fn fault(highest: u8, levels: &[u8], marks: &[u8]) -> Fault
     requires { ⌜ length (now levels) ≡ length (now marks) ⌝ }
     ensures { λ r. ⌜ checksOf r ≡ marked highest (now (levels .entry)) (now (marks .entry)) passed ⌝ }
 {
+    if worst(highest, levels, marks) == 0 {
+        return Fault {
+            number: 0,
+            place: 0,
+        };
+    }
     let above = above_two(marks);
     if above.number != 0 {
         return above;
     }
     too_deep(highest, levels, marks)
+}
+
+// 0 only where no mark has a fault: all of them without a way out in between, so that the machine takes many at a time.
+fn worst(highest: u8, levels: &[u8], marks: &[u8]) -> u8
+    requires { ⌜ length (now levels) ≡ length (now marks) ⌝ }
+    ensures { λ r. ⌜ Faultless highest (now (levels .entry)) (now (marks .entry)) (length (now (marks .entry))) r ⌝ }
+{
+    let mut most = 0;
+    let mut i = 0;
+    while i < marks.len() {
+        most = larger(most, either(highest, levels[i], marks[i]));
+        i += 1;
+    }
+    most
+}
+
+// The larger of two numbers.
+fn larger(a: u8, b: u8) -> u8
+    ensures { λ r. ⌜ (r ≡ 0 → (a ≡ 0) × (b ≡ 0)) ⌝ }
+{
+    if a < b {
+        return b;
+    }
+    a
+}
+
+// 13 or 7, or 0 where a mark has neither fault.
+fn either(highest: u8, level: u8, mark: u8) -> u8
+    ensures { λ r. ⌜ (r ≡ 0 → (fault-when (ltb 2 mark) 13 0 ≡ 0) × (fault-when (eqb mark 1 && leb highest level) 7 0 ≡ 0)) ⌝ }
+{
+    if 2 < mark {
+        return 13;
+    }
+    if refines_deep(highest, level, mark) {
+        return 7;
+    }
+    0
 }
 
 // The first mark above 2.

@@ -47,12 +47,12 @@ pub(crate) fn write(
     let mut size = 0;
     while i < roots.len() {
         let t = turn::turn(bits, roots, levels, positions, marks, i);
-        let count = turn::made(bits, t);
         let level = turn::level(t, levels[i]);
         let position = turn::position(bits, t, positions[i]);
-        run::run(
+        run::lay(
+            bits,
+            t,
             size,
-            count,
             roots[i],
             level,
             position,
@@ -60,7 +60,7 @@ pub(crate) fn write(
             new_levels,
             new_positions,
         );
-        size += count;
+        size += turn::made(bits, t);
         i += turn::taken(bits, t);
     }
 }

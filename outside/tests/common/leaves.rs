@@ -1,12 +1,8 @@
-//! Leaf lists as columns: valid ones made, any checked by the proved library and by the plain code.
+//! Leaf lists as columns, and valid ones made.
 
-use std::hint::black_box;
-use std::ops::Range;
-
-use gwerniloc::{plain, Refusal, HIGHEST_LEVEL};
+use gwerniloc::HIGHEST_LEVEL;
 
 use super::random::Random;
-use super::Both;
 
 /// A leaf as root, level, position.
 pub type Leaf = (u16, u8, u64);
@@ -57,68 +53,6 @@ impl Leaves {
         self.level.resize(levels, 0);
         self.position.resize(positions, 0);
     }
-
-    /// Continues each column with another list's.
-    pub fn append(&mut self, other: &Leaves) {
-        self.root.extend(&other.root);
-        self.level.extend(&other.level);
-        self.position.extend(&other.position);
-    }
-
-    /// The part of each column that its length says.
-    pub fn part(&self, range: impl Fn(usize) -> Range<usize>) -> Leaves {
-        Leaves {
-            root: self.root[range(self.root.len())].to_vec(),
-            level: self.level[range(self.level.len())].to_vec(),
-            position: self.position[range(self.position.len())].to_vec(),
-        }
-    }
-
-    /// Also sees to it that the lent columns are as they were.
-    pub fn check(&self, roots: u16) -> Both<()> {
-        let kept = self.clone();
-        let lent = black_box(self);
-        let proved = gwerniloc::check_list(roots, &lent.root, &lent.level, &lent.position);
-        // Hidden from the compiler, which might take it that shared slices never change.
-        assert!(black_box(self) == &kept, "the lent columns have changed");
-        [proved, Refusal::from_c(plain::list::check(roots, &lent.root, &lent.level, &lent.position))]
-    }
-}
-
-/// Entries in front of the columns lent to a uniform start, and as many behind them, that it must not reach.
-const MARGIN: usize = 8;
-
-/// Columns of these lengths filled with a pattern, no entry of which a leaf of a valid list can have.
-pub fn pattern(lengths: [usize; 3]) -> Leaves {
-    let mix = |i: usize| (i as u64 + 1).wrapping_mul(0x9e37_79b9_7f4a_7c15);
-    Leaves {
-        root: (0..lengths[0]).map(|i| 1 << 15 | (mix(i) >> 48) as u16).collect(),
-        level: (0..lengths[1]).map(|i| 1 << 7 | (mix(i) >> 56) as u8).collect(),
-        position: (0..lengths[2]).map(|i| 1 << 63 | mix(i)).collect(),
-    }
-}
-
-/// Both uniform starts, in columns of these lengths filled with the pattern: the answers, and the columns after them.
-pub fn start(roots: u16, level: u8, lengths: [usize; 3]) -> [(Result<u64, Refusal>, Leaves); 2] {
-    let filled = pattern(lengths);
-    let around = pattern([MARGIN; 3]);
-    [true, false].map(|proved| {
-        let mut columns = around.clone();
-        columns.append(&filled);
-        columns.append(&around);
-        let root = &mut columns.root[MARGIN..][..lengths[0]];
-        let leaf_level = &mut columns.level[MARGIN..][..lengths[1]];
-        let position = &mut columns.position[MARGIN..][..lengths[2]];
-        let answer = if proved {
-            gwerniloc::uniform(roots, level, root, leaf_level, position)
-        } else {
-            plain::list::uniform(roots, level, root, leaf_level, position).result()
-        };
-        let columns = black_box(columns);
-        assert!(columns.part(|_| 0..MARGIN) == around, "written in front of a column");
-        assert!(columns.part(|length| length - MARGIN..length) == around, "written behind a column");
-        (answer, columns.part(|length| MARGIN..length - MARGIN))
-    })
 }
 
 impl FromIterator<Leaf> for Leaves {
@@ -134,12 +68,13 @@ pub fn uniform(roots: u16, level: u8) -> Leaves {
     (0..roots).flat_map(|root| (0..positions(level)).map(move |position| (root, level, position))).collect()
 }
 
-/// How many positions a level has.
+/// How many positions a level has, 8^level.
 pub fn positions(level: u8) -> u64 {
-    8u64.pow(level as u32)
+    1 << (3 * level)
 }
 
-fn children((root, level, position): Leaf) -> impl Iterator<Item = Leaf> {
+/// The eight children of a leaf, in order.
+pub fn children((root, level, position): Leaf) -> impl Iterator<Item = Leaf> {
     (0..8).map(move |i| (root, level + 1, 8 * position + i))
 }
 
@@ -170,6 +105,17 @@ pub fn refined(r: &mut Random, roots: u16, most: usize) -> Leaves {
             }
         }
         leaves = next;
+    }
+    leaves.into_iter().collect()
+}
+
+/// A valid list of the roots, of which one is refined down to the highest level, each time at one child.
+pub fn deep(r: &mut Random, roots: u16) -> Leaves {
+    let mut leaves: Vec<Leaf> = (0..roots).map(|root| (root, 0, 0)).collect();
+    let mut i = r.below(roots as u64) as usize;
+    for _ in 0..HIGHEST_LEVEL {
+        leaves.splice(i..=i, children(leaves[i]));
+        i += r.below(8) as usize;
     }
     leaves.into_iter().collect()
 }

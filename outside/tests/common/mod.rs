@@ -9,8 +9,15 @@ use std::hint::black_box;
 
 use gwerniloc::{plain, Line, Prism, Refusal, Triangle};
 
+pub mod calls;
+pub mod faults;
 pub mod leaves;
+pub mod lent;
+pub mod marks;
+pub mod naive;
 pub mod random;
+pub mod sample;
+pub mod tally;
 
 /// The answers of the proved library and of the plain code, in this order.
 pub type Both<T> = [Result<T, Refusal>; 2];

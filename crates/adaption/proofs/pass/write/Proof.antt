@@ -7,7 +7,7 @@ use lib.Pow.{pow-pos}
 use borrow.Author.Needs.{needs}
 use Rattle.leaves.specs.Leaves.{leaves, leafAt}
 use Rattle.leaves.proofs.Listed.{leaves-length, at-leaves}
-use Rattle.adaption.specs.Pass.{stride}
+use Rattle.adaption.specs.Pass.{gain, stride}
 use Rattle.adaption.proofs.Width.{few-children}
 use Rattle.adaption.proofs.Passing.{Underway, underway-none, underway-next, underway-all, along-next, along-few, room-for, roots-stay, levels-stay, positions-stay, stride-pos, run-fits, made-is}
 use Rattle.adaption.proofs.Fitting.{level-below, level-above, position-below, position-low}
@@ -27,38 +27,38 @@ loop-holds c = underway-none (2 ^ (c .before .before .before .before .before .be
 turn-requires : tie.Need-turn-requires Inv-loop μ-loop
 turn-requires c κs = ((c .before .before .before .before .before .before .before .before .before .pre .0), ((c .loop-test .taken), (c .before .before .before .before .before .before .before .before .before .pre .1 .1 .1 .1 .1)))
 
-made-requires : tie.Need-made-requires Inv-loop μ-loop
-made-requires c κs = (c .before .before .before .before .before .before .before .before .before .before .pre .0)
-
 shared-slice-read-level : tie.Need-shared-slice-read-level Inv-loop μ-loop
-shared-slice-read-level c = omega (arith, (c .before .before .before .loop-test .taken), (c .before .before .before .before .before .before .before .before .before .before .before .before .pre .1 .1 .1 .1 .1 .0))
+shared-slice-read-level c = omega (arith, (c .before .before .loop-test .taken), (c .before .before .before .before .before .before .before .before .before .before .before .pre .1 .1 .1 .1 .1 .0))
 
 level-requires : tie.Need-level-requires Inv-loop μ-loop
-level-requires c κs = (level-below (2 ^ (c .before .before .before .before .before .before .before .before .before .before .before .before .args .bits)) (pow-pos (c .before .before .before .before .before .before .before .before .before .before .before .before .args .bits)) (c .before .before .before .before .before .before .before .before .before .before .before .before .args .roots .now) (c .before .before .before .before .before .before .before .before .before .before .before .before .args .levels .now) (c .before .before .before .before .before .before .before .before .before .before .before .before .args .positions .now) (c .before .before .before .before .before .before .before .before .before .before .before .before .args .marks .now) (c .before .before .before .before .before .before .before .before .before .before .before .before .pre .1 .1 .1 .1 .1 .1 .1 .1) (c .before .before .before .before .loop .i) (c .before .before .before .loop-test .taken) ((c .before .before .before .before .loop .inv) .along .clear) (c .before .before .turn .result) (c .before .before .turn .ensures), level-above (2 ^ (c .before .before .before .before .before .before .before .before .before .before .before .before .args .bits)) (pow-pos (c .before .before .before .before .before .before .before .before .before .before .before .before .args .bits)) (c .before .before .before .before .before .before .before .before .before .before .before .before .args .roots .now) (c .before .before .before .before .before .before .before .before .before .before .before .before .args .levels .now) (c .before .before .before .before .before .before .before .before .before .before .before .before .args .positions .now) (c .before .before .before .before .before .before .before .before .before .before .before .before .args .marks .now) (c .before .before .before .before .before .before .before .before .before .before .before .before .pre .1 .1 .1 .1 .1 .1 .1 .1) (c .before .before .before .before .loop .i) (c .before .before .before .loop-test .taken) ((c .before .before .before .before .loop .inv) .along .clear) (c .before .before .turn .result) (c .before .before .turn .ensures))
+level-requires c κs = (level-below (2 ^ (c .before .before .before .before .before .before .before .before .before .before .before .args .bits)) (pow-pos (c .before .before .before .before .before .before .before .before .before .before .before .args .bits)) (c .before .before .before .before .before .before .before .before .before .before .before .args .roots .now) (c .before .before .before .before .before .before .before .before .before .before .before .args .levels .now) (c .before .before .before .before .before .before .before .before .before .before .before .args .positions .now) (c .before .before .before .before .before .before .before .before .before .before .before .args .marks .now) (c .before .before .before .before .before .before .before .before .before .before .before .pre .1 .1 .1 .1 .1 .1 .1 .1) (c .before .before .before .loop .i) (c .before .before .loop-test .taken) ((c .before .before .before .loop .inv) .along .clear) (c .before .turn .result) (c .before .turn .ensures), level-above (2 ^ (c .before .before .before .before .before .before .before .before .before .before .before .args .bits)) (pow-pos (c .before .before .before .before .before .before .before .before .before .before .before .args .bits)) (c .before .before .before .before .before .before .before .before .before .before .before .args .roots .now) (c .before .before .before .before .before .before .before .before .before .before .before .args .levels .now) (c .before .before .before .before .before .before .before .before .before .before .before .args .positions .now) (c .before .before .before .before .before .before .before .before .before .before .before .args .marks .now) (c .before .before .before .before .before .before .before .before .before .before .before .pre .1 .1 .1 .1 .1 .1 .1 .1) (c .before .before .before .loop .i) (c .before .before .loop-test .taken) ((c .before .before .before .loop .inv) .along .clear) (c .before .turn .result) (c .before .turn .ensures))
 
 mul-position : tie.Need-mul-position Inv-loop μ-loop
 mul-position c = search needs
 
 shared-slice-read-position : tie.Need-shared-slice-read-position Inv-loop μ-loop
-shared-slice-read-position c = omega (arith, (c .before .before .before .before .before .loop-test .taken), (c .before .before .before .before .before .before .before .before .before .before .before .before .before .before .pre .1 .1 .1 .1 .1 .1 .0))
+shared-slice-read-position c = omega (arith, (c .before .before .before .before .loop-test .taken), (c .before .before .before .before .before .before .before .before .before .before .before .before .before .pre .1 .1 .1 .1 .1 .1 .0))
 
 position-requires : tie.Need-position-requires Inv-loop μ-loop
-position-requires c κs = ((c .before .before .before .before .before .before .before .before .before .before .before .before .before .before .pre .0), position-below (2 ^ (c .before .before .before .before .before .before .before .before .before .before .before .before .before .before .args .bits)) (pow-pos (c .before .before .before .before .before .before .before .before .before .before .before .before .before .before .args .bits)) (c .before .before .before .before .before .before .before .before .before .before .before .before .before .before .args .roots .now) (c .before .before .before .before .before .before .before .before .before .before .before .before .before .before .args .levels .now) (c .before .before .before .before .before .before .before .before .before .before .before .before .before .before .args .positions .now) (c .before .before .before .before .before .before .before .before .before .before .before .before .before .before .args .marks .now) (c .before .before .before .before .before .before .before .before .before .before .before .before .before .before .pre .1 .1 .1 .1 .1 .1 .1 .1) (c .before .before .before .before .before .before .loop .i) (c .before .before .before .before .before .loop-test .taken) ((c .before .before .before .before .before .before .loop .inv) .along .clear) (c .before .before .before .before .turn .result) (c .before .before .before .before .turn .ensures))
+position-requires c κs = ((c .before .before .before .before .before .before .before .before .before .before .before .before .before .pre .0), position-below (2 ^ (c .before .before .before .before .before .before .before .before .before .before .before .before .before .args .bits)) (pow-pos (c .before .before .before .before .before .before .before .before .before .before .before .before .before .args .bits)) (c .before .before .before .before .before .before .before .before .before .before .before .before .before .args .roots .now) (c .before .before .before .before .before .before .before .before .before .before .before .before .before .args .levels .now) (c .before .before .before .before .before .before .before .before .before .before .before .before .before .args .positions .now) (c .before .before .before .before .before .before .before .before .before .before .before .before .before .args .marks .now) (c .before .before .before .before .before .before .before .before .before .before .before .before .before .pre .1 .1 .1 .1 .1 .1 .1 .1) (c .before .before .before .before .before .loop .i) (c .before .before .before .before .loop-test .taken) ((c .before .before .before .before .before .loop .inv) .along .clear) (c .before .before .before .turn .result) (c .before .before .before .turn .ensures))
 
-mul-run : tie.Need-mul-run Inv-loop μ-loop
-mul-run c = search needs
+mul-lay : tie.Need-mul-lay Inv-loop μ-loop
+mul-lay c = search needs
 
-shared-slice-read-run : tie.Need-shared-slice-read-run Inv-loop μ-loop
-shared-slice-read-run c = omega (arith, (c .before .before .before .before .before .before .before .loop-test .taken))
+shared-slice-read-lay : tie.Need-shared-slice-read-lay Inv-loop μ-loop
+shared-slice-read-lay c = omega (arith, (c .before .before .before .before .before .before .loop-test .taken))
 
-run-requires : tie.Need-run-requires Inv-loop μ-loop
-run-requires c κs =
-    let positions-fit = run-fits (2 ^ (c .before .before .before .before .before .before .before .before .before .before .before .before .before .before .before .before .before .before .before .args .bits)) (pow-pos (c .before .before .before .before .before .before .before .before .before .before .before .before .before .before .before .before .before .before .before .args .bits)) (c .before .before .before .before .before .before .before .before .before .turn .result) (getD (c .before .before .before .before .before .before .before .before .before .before .before .before .before .before .before .before .before .before .before .args .positions .now) (c .before .before .before .before .before .before .before .before .before .before .before .loop .i) 0) (position-low (2 ^ (c .before .before .before .before .before .before .before .before .before .before .before .before .before .before .before .before .before .before .before .args .bits)) (pow-pos (c .before .before .before .before .before .before .before .before .before .before .before .before .before .before .before .before .before .before .before .args .bits)) (c .before .before .before .before .before .before .before .before .before .before .before .before .before .before .before .before .before .before .before .args .roots .now) (c .before .before .before .before .before .before .before .before .before .before .before .before .before .before .before .before .before .before .before .args .levels .now) (c .before .before .before .before .before .before .before .before .before .before .before .before .before .before .before .before .before .before .before .args .positions .now) (c .before .before .before .before .before .before .before .before .before .before .before .before .before .before .before .before .before .before .before .args .marks .now) (c .before .before .before .before .before .before .before .before .before .before .before .before .before .before .before .before .before .before .before .pre .1 .1 .1 .1 .1 .1 .1 .1) (c .before .before .before .before .before .before .before .before .before .before .before .loop .i) (c .before .before .before .before .before .before .before .before .before .before .loop-test .taken) ((c .before .before .before .before .before .before .before .before .before .before .before .loop .inv) .along .clear) (c .before .before .before .before .before .before .before .before .before .turn .result) (c .before .before .before .before .before .before .before .before .before .turn .ensures)) (position-below (2 ^ (c .before .before .before .before .before .before .before .before .before .before .before .before .before .before .before .before .before .before .before .args .bits)) (pow-pos (c .before .before .before .before .before .before .before .before .before .before .before .before .before .before .before .before .before .before .before .args .bits)) (c .before .before .before .before .before .before .before .before .before .before .before .before .before .before .before .before .before .before .before .args .roots .now) (c .before .before .before .before .before .before .before .before .before .before .before .before .before .before .before .before .before .before .before .args .levels .now) (c .before .before .before .before .before .before .before .before .before .before .before .before .before .before .before .before .before .before .before .args .positions .now) (c .before .before .before .before .before .before .before .before .before .before .before .before .before .before .before .before .before .before .before .args .marks .now) (c .before .before .before .before .before .before .before .before .before .before .before .before .before .before .before .before .before .before .before .pre .1 .1 .1 .1 .1 .1 .1 .1) (c .before .before .before .before .before .before .before .before .before .before .before .loop .i) (c .before .before .before .before .before .before .before .before .before .before .loop-test .taken) ((c .before .before .before .before .before .before .before .before .before .before .before .loop .inv) .along .clear) (c .before .before .before .before .before .before .before .before .before .turn .result) (c .before .before .before .before .before .before .before .before .before .turn .ensures)) in
-    (rw ((c .before .before .before .before .position .ensures), (c .before .before .before .before .before .before .before .before .made .ensures)) positions-fit, room-for (2 ^ (c .before .before .before .before .before .before .before .before .before .before .before .before .before .before .before .before .before .before .before .args .bits)) (pow-pos (c .before .before .before .before .before .before .before .before .before .before .before .before .before .before .before .before .before .before .before .args .bits)) (leaves (c .before .before .before .before .before .before .before .before .before .before .before .before .before .before .before .before .before .before .before .args .roots .now) (c .before .before .before .before .before .before .before .before .before .before .before .before .before .before .before .before .before .before .before .args .levels .now) (c .before .before .before .before .before .before .before .before .before .before .before .before .before .before .before .before .before .before .before .args .positions .now)) (c .before .before .before .before .before .before .before .before .before .before .before .before .before .before .before .before .before .before .before .args .marks .now) (c .before .before .before .before .before .before .before .before .before .before .before .before .before .before .before .before .before .before .before .args .new-roots .now) (c .before .before .before .before .before .before .before .before .before .before .before .before .before .before .before .before .before .before .before .args .new-levels .now) (c .before .before .before .before .before .before .before .before .before .before .before .before .before .before .before .before .before .before .before .args .new-positions .now) (c .before .before .before .before .before .before .before .before .before .before .before .loop .i) (c .before .before .before .before .before .before .before .before .before .before .before .loop .size) (c .before .before .before .before .before .before .before .before .before .before .before .loop .new-roots) (c .before .before .before .before .before .before .before .before .before .before .before .loop .new-levels) (c .before .before .before .before .before .before .before .before .before .before .before .loop .new-positions) (c .before .before .before .before .before .before .before .before .before .before .before .loop .inv) (omega (arith, (c .before .before .before .before .before .before .before .before .before .before .loop-test .taken), leaves-length (c .before .before .before .before .before .before .before .before .before .before .before .before .before .before .before .before .before .before .before .args .roots .now) (c .before .before .before .before .before .before .before .before .before .before .before .before .before .before .before .before .before .before .before .args .levels .now) (c .before .before .before .before .before .before .before .before .before .before .before .before .before .before .before .before .before .before .before .args .positions .now))) (c .before .before .before .before .before .before .before .before .before .before .before .before .before .before .before .before .before .before .before .pre .1 .1 .0) (c .before .before .before .before .before .before .before .before .before .before .before .before .before .before .before .before .before .before .before .pre .1 .1 .1 .0) (c .before .before .before .before .before .before .before .before .before .before .before .before .before .before .before .before .before .before .before .pre .1 .1 .1 .1 .0) (c .before .before .before .before .before .before .before .before .before .turn .result) (c .before .before .before .before .before .before .before .before .made .result) (c .before .before .before .before .before .before .before .before .before .turn .ensures) (c .before .before .before .before .before .before .before .before .made .ensures))
+lay-requires : tie.Need-lay-requires Inv-loop μ-loop
+lay-requires c κs =
+    let positions-fit = run-fits (2 ^ (c .before .before .before .before .before .before .before .before .before .before .before .before .before .before .before .before .before .before .args .bits)) (pow-pos (c .before .before .before .before .before .before .before .before .before .before .before .before .before .before .before .before .before .before .args .bits)) (c .before .before .before .before .before .before .before .before .turn .result) (getD (c .before .before .before .before .before .before .before .before .before .before .before .before .before .before .before .before .before .before .args .positions .now) (c .before .before .before .before .before .before .before .before .before .before .loop .i) 0) (position-low (2 ^ (c .before .before .before .before .before .before .before .before .before .before .before .before .before .before .before .before .before .before .args .bits)) (pow-pos (c .before .before .before .before .before .before .before .before .before .before .before .before .before .before .before .before .before .before .args .bits)) (c .before .before .before .before .before .before .before .before .before .before .before .before .before .before .before .before .before .before .args .roots .now) (c .before .before .before .before .before .before .before .before .before .before .before .before .before .before .before .before .before .before .args .levels .now) (c .before .before .before .before .before .before .before .before .before .before .before .before .before .before .before .before .before .before .args .positions .now) (c .before .before .before .before .before .before .before .before .before .before .before .before .before .before .before .before .before .before .args .marks .now) (c .before .before .before .before .before .before .before .before .before .before .before .before .before .before .before .before .before .before .pre .1 .1 .1 .1 .1 .1 .1 .1) (c .before .before .before .before .before .before .before .before .before .before .loop .i) (c .before .before .before .before .before .before .before .before .before .loop-test .taken) ((c .before .before .before .before .before .before .before .before .before .before .loop .inv) .along .clear) (c .before .before .before .before .before .before .before .before .turn .result) (c .before .before .before .before .before .before .before .before .turn .ensures)) (position-below (2 ^ (c .before .before .before .before .before .before .before .before .before .before .before .before .before .before .before .before .before .before .args .bits)) (pow-pos (c .before .before .before .before .before .before .before .before .before .before .before .before .before .before .before .before .before .before .args .bits)) (c .before .before .before .before .before .before .before .before .before .before .before .before .before .before .before .before .before .before .args .roots .now) (c .before .before .before .before .before .before .before .before .before .before .before .before .before .before .before .before .before .before .args .levels .now) (c .before .before .before .before .before .before .before .before .before .before .before .before .before .before .before .before .before .before .args .positions .now) (c .before .before .before .before .before .before .before .before .before .before .before .before .before .before .before .before .before .before .args .marks .now) (c .before .before .before .before .before .before .before .before .before .before .before .before .before .before .before .before .before .before .pre .1 .1 .1 .1 .1 .1 .1 .1) (c .before .before .before .before .before .before .before .before .before .before .loop .i) (c .before .before .before .before .before .before .before .before .before .loop-test .taken) ((c .before .before .before .before .before .before .before .before .before .before .loop .inv) .along .clear) (c .before .before .before .before .before .before .before .before .turn .result) (c .before .before .before .before .before .before .before .before .turn .ensures)) in
+    ((c .before .before .before .before .before .before .before .before .before .before .before .before .before .before .before .before .before .before .pre .0), (rw (c .before .before .before .before .position .ensures) positions-fit, room-for (2 ^ (c .before .before .before .before .before .before .before .before .before .before .before .before .before .before .before .before .before .before .args .bits)) (pow-pos (c .before .before .before .before .before .before .before .before .before .before .before .before .before .before .before .before .before .before .args .bits)) (leaves (c .before .before .before .before .before .before .before .before .before .before .before .before .before .before .before .before .before .before .args .roots .now) (c .before .before .before .before .before .before .before .before .before .before .before .before .before .before .before .before .before .before .args .levels .now) (c .before .before .before .before .before .before .before .before .before .before .before .before .before .before .before .before .before .before .args .positions .now)) (c .before .before .before .before .before .before .before .before .before .before .before .before .before .before .before .before .before .before .args .marks .now) (c .before .before .before .before .before .before .before .before .before .before .before .before .before .before .before .before .before .before .args .new-roots .now) (c .before .before .before .before .before .before .before .before .before .before .before .before .before .before .before .before .before .before .args .new-levels .now) (c .before .before .before .before .before .before .before .before .before .before .before .before .before .before .before .before .before .before .args .new-positions .now) (c .before .before .before .before .before .before .before .before .before .before .loop .i) (c .before .before .before .before .before .before .before .before .before .before .loop .size) (c .before .before .before .before .before .before .before .before .before .before .loop .new-roots) (c .before .before .before .before .before .before .before .before .before .before .loop .new-levels) (c .before .before .before .before .before .before .before .before .before .before .loop .new-positions) (c .before .before .before .before .before .before .before .before .before .before .loop .inv) (omega (arith, (c .before .before .before .before .before .before .before .before .before .loop-test .taken), leaves-length (c .before .before .before .before .before .before .before .before .before .before .before .before .before .before .before .before .before .before .args .roots .now) (c .before .before .before .before .before .before .before .before .before .before .before .before .before .before .before .before .before .before .args .levels .now) (c .before .before .before .before .before .before .before .before .before .before .before .before .before .before .before .before .before .before .args .positions .now))) (c .before .before .before .before .before .before .before .before .before .before .before .before .before .before .before .before .before .before .pre .1 .1 .0) (c .before .before .before .before .before .before .before .before .before .before .before .before .before .before .before .before .before .before .pre .1 .1 .1 .0) (c .before .before .before .before .before .before .before .before .before .before .before .before .before .before .before .before .before .before .pre .1 .1 .1 .1 .0) (c .before .before .before .before .before .before .before .before .turn .result) (gain (2 ^ (c .before .before .before .before .before .before .before .before .before .before .before .before .before .before .before .before .before .before .args .bits)) (c .before .before .before .before .before .before .before .before .turn .result)) (c .before .before .before .before .before .before .before .before .turn .ensures) refl))
+
+made-requires : tie.Need-made-requires Inv-loop μ-loop
+made-requires c κs = (c .before .before .before .before .before .before .before .before .before .before .before .before .before .before .before .before .before .before .before .before .before .before .before .before .before .pre .0)
 
 add-size : tie.Need-add-size Inv-loop μ-loop
 add-size c =
-    let next = along-next (2 ^ (c .before .before .before .before .before .before .before .before .before .before .before .before .before .before .before .before .before .before .before .before .before .before .before .before .before .before .args .bits)) (pow-pos (c .before .before .before .before .before .before .before .before .before .before .before .before .before .before .before .before .before .before .before .before .before .before .before .before .before .before .args .bits)) (leaves (c .before .before .before .before .before .before .before .before .before .before .before .before .before .before .before .before .before .before .before .before .before .before .before .before .before .before .args .roots .now) (c .before .before .before .before .before .before .before .before .before .before .before .before .before .before .before .before .before .before .before .before .before .before .before .before .before .before .args .levels .now) (c .before .before .before .before .before .before .before .before .before .before .before .before .before .before .before .before .before .before .before .before .before .before .before .before .before .before .args .positions .now)) (c .before .before .before .before .before .before .before .before .before .before .before .before .before .before .before .before .before .before .before .before .before .before .before .before .before .before .args .marks .now) (c .before .before .before .before .before .before .before .before .before .before .before .before .before .before .before .before .before .before .loop .i) (c .before .before .before .before .before .before .before .before .before .before .before .before .before .before .before .before .before .before .loop .size) ((c .before .before .before .before .before .before .before .before .before .before .before .before .before .before .before .before .before .before .loop .inv) .along) (omega (arith, (c .before .before .before .before .before .before .before .before .before .before .before .before .before .before .before .before .before .loop-test .taken), leaves-length (c .before .before .before .before .before .before .before .before .before .before .before .before .before .before .before .before .before .before .before .before .before .before .before .before .before .before .args .roots .now) (c .before .before .before .before .before .before .before .before .before .before .before .before .before .before .before .before .before .before .before .before .before .before .before .before .before .before .args .levels .now) (c .before .before .before .before .before .before .before .before .before .before .before .before .before .before .before .before .before .before .before .before .before .before .before .before .before .before .args .positions .now))) (c .before .before .before .before .before .before .before .before .before .before .before .before .before .before .before .before .turn .result) (stride (2 ^ (c .before .before .before .before .before .before .before .before .before .before .before .before .before .before .before .before .before .before .before .before .before .before .before .before .before .before .args .bits)) (c .before .before .before .before .before .before .before .before .before .before .before .before .before .before .before .before .turn .result)) (c .before .before .before .before .before .before .before .before .before .before .before .before .before .before .before .made .result) (c .before .before .before .before .before .before .before .before .before .before .before .before .before .before .before .before .turn .ensures) refl (c .before .before .before .before .before .before .before .before .before .before .before .before .before .before .before .made .ensures) in
+    let next = along-next (2 ^ (c .before .before .before .before .before .before .before .before .before .before .before .before .before .before .before .before .before .before .before .before .before .before .before .before .before .before .args .bits)) (pow-pos (c .before .before .before .before .before .before .before .before .before .before .before .before .before .before .before .before .before .before .before .before .before .before .before .before .before .before .args .bits)) (leaves (c .before .before .before .before .before .before .before .before .before .before .before .before .before .before .before .before .before .before .before .before .before .before .before .before .before .before .args .roots .now) (c .before .before .before .before .before .before .before .before .before .before .before .before .before .before .before .before .before .before .before .before .before .before .before .before .before .before .args .levels .now) (c .before .before .before .before .before .before .before .before .before .before .before .before .before .before .before .before .before .before .before .before .before .before .before .before .before .before .args .positions .now)) (c .before .before .before .before .before .before .before .before .before .before .before .before .before .before .before .before .before .before .before .before .before .before .before .before .before .before .args .marks .now) (c .before .before .before .before .before .before .before .before .before .before .before .before .before .before .before .before .before .before .loop .i) (c .before .before .before .before .before .before .before .before .before .before .before .before .before .before .before .before .before .before .loop .size) ((c .before .before .before .before .before .before .before .before .before .before .before .before .before .before .before .before .before .before .loop .inv) .along) (omega (arith, (c .before .before .before .before .before .before .before .before .before .before .before .before .before .before .before .before .before .loop-test .taken), leaves-length (c .before .before .before .before .before .before .before .before .before .before .before .before .before .before .before .before .before .before .before .before .before .before .before .before .before .before .args .roots .now) (c .before .before .before .before .before .before .before .before .before .before .before .before .before .before .before .before .before .before .before .before .before .before .before .before .before .before .args .levels .now) (c .before .before .before .before .before .before .before .before .before .before .before .before .before .before .before .before .before .before .before .before .before .before .before .before .before .before .args .positions .now))) (c .before .before .before .before .before .before .before .before .before .before .before .before .before .before .before .before .turn .result) (stride (2 ^ (c .before .before .before .before .before .before .before .before .before .before .before .before .before .before .before .before .before .before .before .before .before .before .before .before .before .before .args .bits)) (c .before .before .before .before .before .before .before .before .before .before .before .before .before .before .before .before .turn .result)) (c .made .result) (c .before .before .before .before .before .before .before .before .before .before .before .before .before .before .before .before .turn .ensures) refl (c .made .ensures) in
     omega (arith, along-few (2 ^ (c .before .before .before .before .before .before .before .before .before .before .before .before .before .before .before .before .before .before .before .before .before .before .before .before .before .before .args .bits)) (pow-pos (c .before .before .before .before .before .before .before .before .before .before .before .before .before .before .before .before .before .before .before .before .before .before .before .before .before .before .args .bits)) (leaves (c .before .before .before .before .before .before .before .before .before .before .before .before .before .before .before .before .before .before .before .before .before .before .before .before .before .before .args .roots .now) (c .before .before .before .before .before .before .before .before .before .before .before .before .before .before .before .before .before .before .before .before .before .before .before .before .before .before .args .levels .now) (c .before .before .before .before .before .before .before .before .before .before .before .before .before .before .before .before .before .before .before .before .before .before .before .before .before .before .args .positions .now)) (c .before .before .before .before .before .before .before .before .before .before .before .before .before .before .before .before .before .before .before .before .before .before .before .before .before .before .args .marks .now) _ _ next (omega (arith, (c .before .before .before .before .before .before .before .before .before .before .before .before .before .before .before .before .before .before .before .before .before .before .before .before .before .before .pre .1 .0), leaves-length (c .before .before .before .before .before .before .before .before .before .before .before .before .before .before .before .before .before .before .before .before .before .before .before .before .before .before .args .roots .now) (c .before .before .before .before .before .before .before .before .before .before .before .before .before .before .before .before .before .before .before .before .before .before .before .before .before .before .args .levels .now) (c .before .before .before .before .before .before .before .before .before .before .before .before .before .before .before .before .before .before .before .before .before .before .before .before .before .before .args .positions .now))) (few-children (c .before .before .before .before .before .before .before .before .before .before .before .before .before .before .before .before .before .before .before .before .before .before .before .before .before .before .args .bits) (c .before .before .before .before .before .before .before .before .before .before .before .before .before .before .before .before .before .before .before .before .before .before .before .before .before .before .pre .0)))
 
 taken-requires : tie.Need-taken-requires Inv-loop μ-loop
@@ -66,7 +66,7 @@ taken-requires c κs = (c .before .before .before .before .before .before .befor
 
 add-i : tie.Need-add-i Inv-loop μ-loop
 add-i c =
-    let next = along-next (2 ^ (c .before .before .before .before .before .before .before .before .before .before .before .before .before .before .before .before .before .before .before .before .before .before .before .before .before .before .before .args .bits)) (pow-pos (c .before .before .before .before .before .before .before .before .before .before .before .before .before .before .before .before .before .before .before .before .before .before .before .before .before .before .before .args .bits)) (leaves (c .before .before .before .before .before .before .before .before .before .before .before .before .before .before .before .before .before .before .before .before .before .before .before .before .before .before .before .args .roots .now) (c .before .before .before .before .before .before .before .before .before .before .before .before .before .before .before .before .before .before .before .before .before .before .before .before .before .before .before .args .levels .now) (c .before .before .before .before .before .before .before .before .before .before .before .before .before .before .before .before .before .before .before .before .before .before .before .before .before .before .before .args .positions .now)) (c .before .before .before .before .before .before .before .before .before .before .before .before .before .before .before .before .before .before .before .before .before .before .before .before .before .before .before .args .marks .now) (c .before .before .before .before .before .before .before .before .before .before .before .before .before .before .before .before .before .before .before .loop .i) (c .before .before .before .before .before .before .before .before .before .before .before .before .before .before .before .before .before .before .before .loop .size) ((c .before .before .before .before .before .before .before .before .before .before .before .before .before .before .before .before .before .before .before .loop .inv) .along) (omega (arith, (c .before .before .before .before .before .before .before .before .before .before .before .before .before .before .before .before .before .before .loop-test .taken), leaves-length (c .before .before .before .before .before .before .before .before .before .before .before .before .before .before .before .before .before .before .before .before .before .before .before .before .before .before .before .args .roots .now) (c .before .before .before .before .before .before .before .before .before .before .before .before .before .before .before .before .before .before .before .before .before .before .before .before .before .before .before .args .levels .now) (c .before .before .before .before .before .before .before .before .before .before .before .before .before .before .before .before .before .before .before .before .before .before .before .before .before .before .before .args .positions .now))) (c .before .before .before .before .before .before .before .before .before .before .before .before .before .before .before .before .before .turn .result) (c .taken .result) (c .before .before .before .before .before .before .before .before .before .before .before .before .before .before .before .before .made .result) (c .before .before .before .before .before .before .before .before .before .before .before .before .before .before .before .before .before .turn .ensures) (c .taken .ensures) (c .before .before .before .before .before .before .before .before .before .before .before .before .before .before .before .before .made .ensures) in
+    let next = along-next (2 ^ (c .before .before .before .before .before .before .before .before .before .before .before .before .before .before .before .before .before .before .before .before .before .before .before .before .before .before .before .args .bits)) (pow-pos (c .before .before .before .before .before .before .before .before .before .before .before .before .before .before .before .before .before .before .before .before .before .before .before .before .before .before .before .args .bits)) (leaves (c .before .before .before .before .before .before .before .before .before .before .before .before .before .before .before .before .before .before .before .before .before .before .before .before .before .before .before .args .roots .now) (c .before .before .before .before .before .before .before .before .before .before .before .before .before .before .before .before .before .before .before .before .before .before .before .before .before .before .before .args .levels .now) (c .before .before .before .before .before .before .before .before .before .before .before .before .before .before .before .before .before .before .before .before .before .before .before .before .before .before .before .args .positions .now)) (c .before .before .before .before .before .before .before .before .before .before .before .before .before .before .before .before .before .before .before .before .before .before .before .before .before .before .before .args .marks .now) (c .before .before .before .before .before .before .before .before .before .before .before .before .before .before .before .before .before .before .before .loop .i) (c .before .before .before .before .before .before .before .before .before .before .before .before .before .before .before .before .before .before .before .loop .size) ((c .before .before .before .before .before .before .before .before .before .before .before .before .before .before .before .before .before .before .before .loop .inv) .along) (omega (arith, (c .before .before .before .before .before .before .before .before .before .before .before .before .before .before .before .before .before .before .loop-test .taken), leaves-length (c .before .before .before .before .before .before .before .before .before .before .before .before .before .before .before .before .before .before .before .before .before .before .before .before .before .before .before .args .roots .now) (c .before .before .before .before .before .before .before .before .before .before .before .before .before .before .before .before .before .before .before .before .before .before .before .before .before .before .before .args .levels .now) (c .before .before .before .before .before .before .before .before .before .before .before .before .before .before .before .before .before .before .before .before .before .before .before .before .before .before .before .args .positions .now))) (c .before .before .before .before .before .before .before .before .before .before .before .before .before .before .before .before .before .turn .result) (c .taken .result) (c .before .made .result) (c .before .before .before .before .before .before .before .before .before .before .before .before .before .before .before .before .before .turn .ensures) (c .taken .ensures) (c .before .made .ensures) in
     omega (arith, next .upto, (c .before .before .before .before .before .before .before .before .before .before .before .before .before .before .before .before .before .before .before .before .before .before .before .before .before .before .before .pre .1 .0), leaves-length (c .before .before .before .before .before .before .before .before .before .before .before .before .before .before .before .before .before .before .before .before .before .before .before .before .before .before .before .args .roots .now) (c .before .before .before .before .before .before .before .before .before .before .before .before .before .before .before .before .before .before .before .before .before .before .before .before .before .before .before .args .levels .now) (c .before .before .before .before .before .before .before .before .before .before .before .before .before .before .before .before .before .before .before .before .before .before .before .before .before .before .before .args .positions .now))
 
 loop-less : tie.Need-loop-less Inv-loop μ-loop
@@ -76,9 +76,9 @@ loop-less c =
 
 loop-again : tie.Need-loop-again Inv-loop μ-loop
 loop-again c =
-    underway-next (2 ^ (c .before .before .before .before .before .before .before .before .before .before .before .before .before .before .before .before .before .before .before .before .before .before .before .before .before .before .before .args .bits)) (pow-pos (c .before .before .before .before .before .before .before .before .before .before .before .before .before .before .before .before .before .before .before .before .before .before .before .before .before .before .before .args .bits)) (leaves (c .before .before .before .before .before .before .before .before .before .before .before .before .before .before .before .before .before .before .before .before .before .before .before .before .before .before .before .args .roots .now) (c .before .before .before .before .before .before .before .before .before .before .before .before .before .before .before .before .before .before .before .before .before .before .before .before .before .before .before .args .levels .now) (c .before .before .before .before .before .before .before .before .before .before .before .before .before .before .before .before .before .before .before .before .before .before .before .before .before .before .before .args .positions .now)) (c .before .before .before .before .before .before .before .before .before .before .before .before .before .before .before .before .before .before .before .before .before .before .before .before .before .before .before .args .marks .now) (c .before .before .before .before .before .before .before .before .before .before .before .before .before .before .before .before .before .before .before .before .before .before .before .before .before .before .before .args .new-roots .now) (c .before .before .before .before .before .before .before .before .before .before .before .before .before .before .before .before .before .before .before .before .before .before .before .before .before .before .before .args .new-levels .now) (c .before .before .before .before .before .before .before .before .before .before .before .before .before .before .before .before .before .before .before .before .before .before .before .before .before .before .before .args .new-positions .now) (c .before .before .before .before .before .before .before .before .before .before .before .before .before .before .before .before .before .before .before .loop .i) (c .before .before .before .before .before .before .before .before .before .before .before .before .before .before .before .before .before .before .before .loop .size) (c .before .before .before .before .before .before .before .before .before .before .before .before .before .before .before .before .before .before .before .loop .new-roots) (c .before .before .before .before .before .before .before .before .before .before .before .before .before .before .before .before .before .before .before .loop .new-levels) (c .before .before .before .before .before .before .before .before .before .before .before .before .before .before .before .before .before .before .before .loop .new-positions) (c .before .before .before .before .before .before .before .before .before .before .before .before .before .before .before .before .before .before .before .loop .inv) (omega (arith, (c .before .before .before .before .before .before .before .before .before .before .before .before .before .before .before .before .before .before .loop-test .taken), leaves-length (c .before .before .before .before .before .before .before .before .before .before .before .before .before .before .before .before .before .before .before .before .before .before .before .before .before .before .before .args .roots .now) (c .before .before .before .before .before .before .before .before .before .before .before .before .before .before .before .before .before .before .before .before .before .before .before .before .before .before .before .args .levels .now) (c .before .before .before .before .before .before .before .before .before .before .before .before .before .before .before .before .before .before .before .before .before .before .before .before .before .before .before .args .positions .now))) (c .before .before .before .before .before .before .before .before .before .before .before .before .before .before .before .before .before .before .before .before .before .before .before .before .before .before .before .pre .1 .1 .0) (c .before .before .before .before .before .before .before .before .before .before .before .before .before .before .before .before .before .before .before .before .before .before .before .before .before .before .before .pre .1 .1 .1 .0) (c .before .before .before .before .before .before .before .before .before .before .before .before .before .before .before .before .before .before .before .before .before .before .before .before .before .before .before .pre .1 .1 .1 .1 .0) (c .before .before .before .before .before .before .before .before .before .before .before .before .before .before .before .before .before .turn .result) (c .taken .result) (c .before .before .before .before .before .before .before .before .before .before .before .before .before .before .before .before .made .result) _ (c .before .before .before .before .before .before .before .before .before .before .before .before .before .before .before .before .before .turn .ensures) (c .taken .ensures) (c .before .before .before .before .before .before .before .before .before .before .before .before .before .before .before .before .made .ensures)
-    (made-is (2 ^ (c .before .before .before .before .before .before .before .before .before .before .before .before .before .before .before .before .before .before .before .before .before .before .before .before .before .before .before .args .bits)) (leaves (c .before .before .before .before .before .before .before .before .before .before .before .before .before .before .before .before .before .before .before .before .before .before .before .before .before .before .before .args .roots .now) (c .before .before .before .before .before .before .before .before .before .before .before .before .before .before .before .before .before .before .before .before .before .before .before .before .before .before .before .args .levels .now) (c .before .before .before .before .before .before .before .before .before .before .before .before .before .before .before .before .before .before .before .before .before .before .before .before .before .before .before .args .positions .now)) (c .before .before .before .before .before .before .before .before .before .before .before .before .before .before .before .before .before .before .before .before .before .before .before .before .before .before .before .args .marks .now) (c .before .before .before .before .before .before .before .before .before .before .before .before .before .before .before .before .before .before .before .loop .i) (c .before .before .before .before .before .before .before .before .before .before .before .before .before .before .before .before .before .turn .result) (c .before .before .before .before .before .before .before .before .before .before .before .before .before .before .level .result) (c .before .before .before .before .before .before .before .before .before .before .before .before .position .result) (c .before .before .before .before .before .before .before .before .before .before .before .before .before .before .before .before .made .result) (leafAt (c .before .before .before .before .before .before .before .before .before .before .before .before .before .before .before .before .before .before .before .before .before .before .before .before .before .before .before .args .roots .now) (c .before .before .before .before .before .before .before .before .before .before .before .before .before .before .before .before .before .before .before .before .before .before .before .before .before .before .before .args .levels .now) (c .before .before .before .before .before .before .before .before .before .before .before .before .before .before .before .before .before .before .before .before .before .before .before .before .before .before .before .args .positions .now) (c .before .before .before .before .before .before .before .before .before .before .before .before .before .before .before .before .before .before .before .loop .i)) (c .before .before .before .before .before .before .before .before .before .before .before .before .before .before .before .before .before .turn .ensures) (sym (at-leaves (c .before .before .before .before .before .before .before .before .before .before .before .before .before .before .before .before .before .before .before .before .before .before .before .before .before .before .before .args .roots .now) (c .before .before .before .before .before .before .before .before .before .before .before .before .before .before .before .before .before .before .before .before .before .before .before .before .before .before .before .args .levels .now) (c .before .before .before .before .before .before .before .before .before .before .before .before .before .before .before .before .before .before .before .before .before .before .before .before .before .before .before .args .positions .now) (c .before .before .before .before .before .before .before .before .before .before .before .before .before .before .before .before .before .before .before .loop .i) (c .before .before .before .before .before .before .before .before .before .before .before .before .before .before .before .before .before .before .loop-test .taken))) (c .before .before .before .before .before .before .before .before .before .before .before .before .before .before .level .ensures) (c .before .before .before .before .before .before .before .before .before .before .before .before .position .ensures) (c .before .before .before .before .before .before .before .before .before .before .before .before .before .before .before .before .made .ensures))
-    (c .before .before .before .before .before .before .before .run .ensures)
+    underway-next (2 ^ (c .before .before .before .before .before .before .before .before .before .before .before .before .before .before .before .before .before .before .before .before .before .before .before .before .before .before .before .args .bits)) (pow-pos (c .before .before .before .before .before .before .before .before .before .before .before .before .before .before .before .before .before .before .before .before .before .before .before .before .before .before .before .args .bits)) (leaves (c .before .before .before .before .before .before .before .before .before .before .before .before .before .before .before .before .before .before .before .before .before .before .before .before .before .before .before .args .roots .now) (c .before .before .before .before .before .before .before .before .before .before .before .before .before .before .before .before .before .before .before .before .before .before .before .before .before .before .before .args .levels .now) (c .before .before .before .before .before .before .before .before .before .before .before .before .before .before .before .before .before .before .before .before .before .before .before .before .before .before .before .args .positions .now)) (c .before .before .before .before .before .before .before .before .before .before .before .before .before .before .before .before .before .before .before .before .before .before .before .before .before .before .before .args .marks .now) (c .before .before .before .before .before .before .before .before .before .before .before .before .before .before .before .before .before .before .before .before .before .before .before .before .before .before .before .args .new-roots .now) (c .before .before .before .before .before .before .before .before .before .before .before .before .before .before .before .before .before .before .before .before .before .before .before .before .before .before .before .args .new-levels .now) (c .before .before .before .before .before .before .before .before .before .before .before .before .before .before .before .before .before .before .before .before .before .before .before .before .before .before .before .args .new-positions .now) (c .before .before .before .before .before .before .before .before .before .before .before .before .before .before .before .before .before .before .before .loop .i) (c .before .before .before .before .before .before .before .before .before .before .before .before .before .before .before .before .before .before .before .loop .size) (c .before .before .before .before .before .before .before .before .before .before .before .before .before .before .before .before .before .before .before .loop .new-roots) (c .before .before .before .before .before .before .before .before .before .before .before .before .before .before .before .before .before .before .before .loop .new-levels) (c .before .before .before .before .before .before .before .before .before .before .before .before .before .before .before .before .before .before .before .loop .new-positions) (c .before .before .before .before .before .before .before .before .before .before .before .before .before .before .before .before .before .before .before .loop .inv) (omega (arith, (c .before .before .before .before .before .before .before .before .before .before .before .before .before .before .before .before .before .before .loop-test .taken), leaves-length (c .before .before .before .before .before .before .before .before .before .before .before .before .before .before .before .before .before .before .before .before .before .before .before .before .before .before .before .args .roots .now) (c .before .before .before .before .before .before .before .before .before .before .before .before .before .before .before .before .before .before .before .before .before .before .before .before .before .before .before .args .levels .now) (c .before .before .before .before .before .before .before .before .before .before .before .before .before .before .before .before .before .before .before .before .before .before .before .before .before .before .before .args .positions .now))) (c .before .before .before .before .before .before .before .before .before .before .before .before .before .before .before .before .before .before .before .before .before .before .before .before .before .before .before .pre .1 .1 .0) (c .before .before .before .before .before .before .before .before .before .before .before .before .before .before .before .before .before .before .before .before .before .before .before .before .before .before .before .pre .1 .1 .1 .0) (c .before .before .before .before .before .before .before .before .before .before .before .before .before .before .before .before .before .before .before .before .before .before .before .before .before .before .before .pre .1 .1 .1 .1 .0) (c .before .before .before .before .before .before .before .before .before .before .before .before .before .before .before .before .before .turn .result) (c .taken .result) (c .before .made .result) _ (c .before .before .before .before .before .before .before .before .before .before .before .before .before .before .before .before .before .turn .ensures) (c .taken .ensures) (c .before .made .ensures)
+    (made-is (2 ^ (c .before .before .before .before .before .before .before .before .before .before .before .before .before .before .before .before .before .before .before .before .before .before .before .before .before .before .before .args .bits)) (leaves (c .before .before .before .before .before .before .before .before .before .before .before .before .before .before .before .before .before .before .before .before .before .before .before .before .before .before .before .args .roots .now) (c .before .before .before .before .before .before .before .before .before .before .before .before .before .before .before .before .before .before .before .before .before .before .before .before .before .before .before .args .levels .now) (c .before .before .before .before .before .before .before .before .before .before .before .before .before .before .before .before .before .before .before .before .before .before .before .before .before .before .before .args .positions .now)) (c .before .before .before .before .before .before .before .before .before .before .before .before .before .before .before .before .before .before .before .before .before .before .before .before .before .before .before .args .marks .now) (c .before .before .before .before .before .before .before .before .before .before .before .before .before .before .before .before .before .before .before .loop .i) (c .before .before .before .before .before .before .before .before .before .before .before .before .before .before .before .before .before .turn .result) (c .before .before .before .before .before .before .before .before .before .before .before .before .before .before .before .level .result) (c .before .before .before .before .before .before .before .before .before .before .before .before .before .position .result) (gain (2 ^ (c .before .before .before .before .before .before .before .before .before .before .before .before .before .before .before .before .before .before .before .before .before .before .before .before .before .before .before .args .bits)) (c .before .before .before .before .before .before .before .before .before .before .before .before .before .before .before .before .before .turn .result)) (leafAt (c .before .before .before .before .before .before .before .before .before .before .before .before .before .before .before .before .before .before .before .before .before .before .before .before .before .before .before .args .roots .now) (c .before .before .before .before .before .before .before .before .before .before .before .before .before .before .before .before .before .before .before .before .before .before .before .before .before .before .before .args .levels .now) (c .before .before .before .before .before .before .before .before .before .before .before .before .before .before .before .before .before .before .before .before .before .before .before .before .before .before .before .args .positions .now) (c .before .before .before .before .before .before .before .before .before .before .before .before .before .before .before .before .before .before .before .loop .i)) (c .before .before .before .before .before .before .before .before .before .before .before .before .before .before .before .before .before .turn .ensures) (sym (at-leaves (c .before .before .before .before .before .before .before .before .before .before .before .before .before .before .before .before .before .before .before .before .before .before .before .before .before .before .before .args .roots .now) (c .before .before .before .before .before .before .before .before .before .before .before .before .before .before .before .before .before .before .before .before .before .before .before .before .before .before .before .args .levels .now) (c .before .before .before .before .before .before .before .before .before .before .before .before .before .before .before .before .before .before .before .before .before .before .before .before .before .before .before .args .positions .now) (c .before .before .before .before .before .before .before .before .before .before .before .before .before .before .before .before .before .before .before .loop .i) (c .before .before .before .before .before .before .before .before .before .before .before .before .before .before .before .before .before .before .loop-test .taken))) (c .before .before .before .before .before .before .before .before .before .before .before .before .before .before .before .level .ensures) (c .before .before .before .before .before .before .before .before .before .before .before .before .before .position .ensures) refl)
+    (c .before .before .before .before .before .before .before .before .lay .ensures)
 
 same-length : tie.Need-same-length Inv-loop μ-loop
 same-length c = roots-stay (2 ^ (c .before .before .before .before .before .before .before .before .before .args .bits)) (pow-pos (c .before .before .before .before .before .before .before .before .before .args .bits)) (leaves (c .before .before .before .before .before .before .before .before .before .args .roots .now) (c .before .before .before .before .before .before .before .before .before .args .levels .now) (c .before .before .before .before .before .before .before .before .before .args .positions .now)) (c .before .before .before .before .before .before .before .before .before .args .marks .now) (c .before .before .before .before .before .before .before .before .before .args .new-roots .now) (c .before .before .before .before .before .before .before .before .before .args .new-levels .now) (c .before .before .before .before .before .before .before .before .before .args .new-positions .now) (c .before .loop .i) (c .before .loop .size) (c .before .loop .new-roots) (c .before .loop .new-levels) (c .before .loop .new-positions) (c .before .loop .inv) (c .before .before .before .before .before .before .before .before .before .pre .1 .1 .0)
@@ -100,15 +100,15 @@ write-spec =
     μ-loop
     loop-holds
     turn-requires
-    made-requires
     shared-slice-read-level
     level-requires
     mul-position
     shared-slice-read-position
     position-requires
-    mul-run
-    shared-slice-read-run
-    run-requires
+    mul-lay
+    shared-slice-read-lay
+    lay-requires
+    made-requires
     add-size
     taken-requires
     add-i

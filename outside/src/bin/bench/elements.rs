@@ -1,30 +1,16 @@
-//! Nanoseconds a call, and for lists a leaf, proved and plain, in one run: `cargo run --release --bin bench`. Not a
-//! test: nothing can fail.
-//!
-//! Both sides are called the same way, by value through the same convention and never inlined.
+//! Nanoseconds a call on one element.
 
 use std::hint::black_box;
 use std::time::Instant;
 
-use gwerniloc::{check_list, plain, Line, Prism, Refusal, Triangle};
+use gwerniloc::{plain, Line, Prism, Refusal, Triangle};
+
+use crate::Random;
 
 const INPUTS: usize = 4_096;
 /// Passes over the inputs between two looks at the clock.
 const ROUNDS: usize = 16;
 const REPETITIONS: usize = 15;
-
-/// The generator splitmix64.
-struct Random(u64);
-
-impl Random {
-    fn next(&mut self) -> u64 {
-        self.0 = self.0.wrapping_add(0x9e37_79b9_7f4a_7c15);
-        let mut v = self.0;
-        v = (v ^ (v >> 30)).wrapping_mul(0xbf58_476d_1ce4_e5b9);
-        v = (v ^ (v >> 27)).wrapping_mul(0x94d0_49bb_1331_11eb);
-        v ^ (v >> 31)
-    }
-}
 
 /// What the sum takes of an answer. One field is enough, for the call cannot know which; and fields that lie together
 /// would be read as one word, which waits for the call's separate stores.
@@ -104,6 +90,7 @@ fn row<I: Copy, A: Fold + PartialEq>(
     println!("{name:<32} {level:>5} {proved:>9.2} {plain:>9.2} {:>7.2}{remark}", proved / plain);
 }
 
+/// The rows of a shape at a level.
 macro_rules! bench {
     ($Shape:ident, $module:ident, $level:expr, $random:expr) => {
         let count = ($Shape::CHILDREN as u64).pow($level as u32);
@@ -136,61 +123,7 @@ macro_rules! bench {
     };
 }
 
-/// A leaf list in columns.
-#[derive(Default)]
-struct Leaves {
-    root: Vec<u16>,
-    level: Vec<u8>,
-    position: Vec<u64>,
-}
-
-impl Leaves {
-    /// The leaves of some roots, all at one level, but those that `refine` picks replaced by their eight children.
-    fn new(roots: u16, level: u8, mut refine: impl FnMut() -> bool) -> Self {
-        let mut leaves = Leaves::default();
-        for root in 0..roots {
-            for position in 0..1 << (3 * level) {
-                if refine() {
-                    (0..8).for_each(|i| leaves.push(root, level + 1, 8 * position + i));
-                } else {
-                    leaves.push(root, level, position);
-                }
-            }
-        }
-        leaves
-    }
-
-    fn push(&mut self, root: u16, level: u8, position: u64) {
-        self.root.push(root);
-        self.level.push(level);
-        self.position.push(position);
-    }
-}
-
-/// Seconds for one call on the list.
-#[inline(never)]
-fn time_list(leaves: &Leaves, call: impl Fn(&Leaves) -> Result<(), Refusal>) -> f64 {
-    let leaves = black_box(leaves);
-    let start = Instant::now();
-    black_box(call(leaves)).expect("a valid list");
-    start.elapsed().as_secs_f64()
-}
-
-/// Best of the repetitions, proved and plain in turn, printed as one row.
-fn list_row(name: &str, roots: u16, leaves: Leaves) {
-    let proved = |l: &Leaves| check_list(roots, &l.root, &l.level, &l.position);
-    let plain = |l: &Leaves| Refusal::from_c(plain::list::check(roots, &l.root, &l.level, &l.position));
-    let mut best = [f64::INFINITY; 2];
-    for _ in 0..ROUNDS * REPETITIONS {
-        best[0] = best[0].min(time_list(&leaves, proved));
-        best[1] = best[1].min(time_list(&leaves, plain));
-    }
-    let count = leaves.root.len();
-    let [proved, plain] = best.map(|seconds| seconds * 1e9 / count as f64);
-    println!("{name:<28} {count:>9} {proved:>9.3} {plain:>9.3} {:>7.2}", proved / plain);
-}
-
-fn main() {
+pub fn rows(random: &mut Random) {
     println!(
         "Nanoseconds a call: the proved library against plain Rust (tables and a loop over the levels), both -O3."
     );
@@ -198,7 +131,6 @@ fn main() {
         "{INPUTS} random inputs, {ROUNDS} passes, best of {REPETITIONS} repetitions in turn; ratio = proved / plain."
     );
     println!("{:<32} {:>5} {:>9} {:>9} {:>7}", "call", "level", "proved", "plain", "ratio");
-    let mut random = Random(1);
     for level in [6, 21] {
         bench!(Prism, prism, level, random);
     }
@@ -208,9 +140,4 @@ fn main() {
     for level in [6, 21] {
         bench!(Line, line, level, random);
     }
-
-    println!("\nNanoseconds a leaf, best of {} calls in turn.", ROUNDS * REPETITIONS);
-    println!("{:<28} {:>9} {:>9} {:>9} {:>7}", "call", "leaves", "proved", "plain", "ratio");
-    list_row("list check, all of level 6", 4, Leaves::new(4, 6, || false));
-    list_row("list check, levels 5 and 6", 7, Leaves::new(7, 5, || random.next() & 1 == 1));
 }

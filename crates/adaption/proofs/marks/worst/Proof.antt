@@ -1,0 +1,61 @@
+-- `worst` meets its contract: while it is 0, no mark before i has a fault. Assumes nothing.
+use mathlib.Core.Path.{_≡_, sym}
+use Prim.Native.Nat.{_-_, _≤_}
+use native.Mathlib.Omega.{arith}
+use lib.ListN.{length}
+use borrow.Author.Needs.{needs}
+use Rattle.adaption.specs.Pass.{Faultless}
+use Rattle.adaption.proofs.Sound.{faultless-none, faultless-more}
+use Rattle.adaption.proofs.marks.worst.Statement.{statement}
+use Rattle.adaption.proofs.marks.worst.Tie as tie
+
+abbrev Inv-loop : tie.InvT-loop
+Inv-loop highest levels marks most₀ i₀ most i = (i ≤ length marks) × Faultless highest levels marks i most
+
+abbrev μ-loop : tie.MeasureT-loop
+μ-loop highest levels marks most₀ i₀ most i = length marks - i
+
+loop-holds : tie.Need-loop-holds Inv-loop μ-loop
+loop-holds c = (omega arith, faultless-none (c .before .before .args .highest) (c .before .before .args .levels .now) (c .before .before .args .marks .now))
+
+shared-slice-read-either : tie.Need-shared-slice-read-either Inv-loop μ-loop
+shared-slice-read-either c = omega (arith, (c .before .before .before .before .before .pre))
+
+shared-slice-read-either-2 : tie.Need-shared-slice-read-either-2 Inv-loop μ-loop
+shared-slice-read-either-2 c = omega arith
+
+either-requires : tie.Need-either-requires Inv-loop μ-loop
+either-requires c κs = search needs
+
+larger-requires : tie.Need-larger-requires Inv-loop μ-loop
+larger-requires c κs = search needs
+
+add-i : tie.Need-add-i Inv-loop μ-loop
+add-i c = omega arith
+
+loop-less : tie.Need-loop-less Inv-loop μ-loop
+loop-less c = omega arith
+
+loop-again : tie.Need-loop-again Inv-loop μ-loop
+loop-again c = (omega arith, faultless-more (c .before .before .before .before .before .before .before .before .args .highest) (c .before .before .before .before .before .before .before .before .args .levels .now) (c .before .before .before .before .before .before .before .before .args .marks .now) (c .before .before .before .before .before .loop .i) (c .before .before .before .before .before .loop .most) (c .before .either .result) (c .larger .result) (c .before .before .before .before .before .loop .inv .1) (c .before .either .ensures) (c .larger .ensures))
+
+returns : tie.Need-returns Inv-loop μ-loop
+returns c =
+    let all : (c .before .loop .i) ≡ length (c .before .before .before .before .args .marks .now) = omega arith in
+    rw (sym all) (c .before .loop .inv .1)
+
+pub worst-spec : {M : Type 1} → statement M
+worst-spec =
+    tie.close
+    (tie.spec
+    Inv-loop
+    μ-loop
+    loop-holds
+    shared-slice-read-either
+    shared-slice-read-either-2
+    either-requires
+    larger-requires
+    add-i
+    loop-less
+    loop-again
+    returns)
