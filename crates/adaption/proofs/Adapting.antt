@@ -15,7 +15,7 @@ use Rattle.leaves.proofs.Listed.{SoundColumns, at-leaves, leaves-length, column
 use Rattle.adaption.specs.Adaption.{mark, adapted}
 use Rattle.adaption.specs.Calls.{marked, sized, adaption, Adapted}
 use Rattle.adaption.specs.Pass.{Ready, Passed}
-use Rattle.adaption.proofs.Marked.{marked-passed, marked-refused, refined-above, ready}
+use Rattle.adaption.proofs.Marked.{marked-passed, marked-refused, refined-above, mark-known, ready}
 use Rattle.paper.specs.declared.NumberAnswer.the-variants as number
 
 and-false : (a : Bool) → (a && false) ≡ false
@@ -64,8 +64,11 @@ module _ (k : ℕ) (rs ls ps ms nr nl np : List ℕ) where
 
           module _ (marks-right : marked 21 ls ms passed ≡ passed) where
             pub list-ready : Ready 8 (leaves rs ls ps) ms
-            list-ready = ready 3 21 k (omega arith) (omega arith) (leaves rs ls ps) ms (columns-of .valid) above
+            list-ready = ready 3 21 k (omega arith) (omega arith) (leaves rs ls ps) ms (columns-of .valid) known above
               where
+                known : (i : ℕ) → i < length (leaves rs ls ps) → mark ms i ≤ 2
+                known i inside = mark-known 21 ls ms marks-right i (omega (arith, long, leaves-length rs ls ps))
+
                 above : (i : ℕ) → i < length (leaves rs ls ps) → mark ms i ≡ 1 → at (leaves rs ls ps) i .level < 21
                 above i inside refined =
                     let within : i < length rs = omega (arith, leaves-length rs ls ps) in

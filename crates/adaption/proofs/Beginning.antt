@@ -8,11 +8,12 @@ use native.Mathlib.Nat.{add-zero}
 use native.Mathlib.Decide.{ℕ-discrete}
 use native.Mathlib.Omega.{arith}
 use lib.ListN.{length, getD}
+use borrow.Author.Tests.{eq-eqb, ne-eqb}
 use Rattle.leaves.specs.Leaves.{Leaf, leaves}
 use Rattle.leaves.specs.Laws.{at}
 use Rattle.leaves.proofs.Listed.{at-leaves, leaves-length}
 use Rattle.adaption.specs.Adaption.{mark, merging}
-use Rattle.adaption.specs.Pass.{Ready}
+use Rattle.adaption.specs.Pass.{turn, Ready}
 use Rattle.adaption.specs.Laws.{Merging}
 use Rattle.adaption.proofs.Family.{merging-is, is-merging, number-in, not-so}
 
@@ -92,3 +93,19 @@ module _ (n : ℕ) (positive : 0 < n) (rs ls ps ms : List ℕ) where
       where
         above : {m : ℕ} → (m ≡ 0 → ⊥) → 0 < m
         above {m} none = omega arith
+
+    -- ---- the turn at leaf i, as the code settles it
+    pub turn-none : (t : ℕ) → mark ms i ≡ 2 → merging n (leaves rs ls ps) ms i ≡ false → t ≡ 0 → t ≡ turn n (leaves rs ls ps) ms i
+    turn-none t two none is = is ∙ sym (simp (ne-eqb (mark ms i) 1 (λ one. omega arith), none))
+
+    pub turn-family : (t : ℕ) → mark ms i ≡ 2 → merging n (leaves rs ls ps) ms i ≡ true → t ≡ mark ms i → t ≡ turn n (leaves rs ls ps) ms i
+    turn-family t two some is = is ∙ two ∙ sym (simp (ne-eqb (mark ms i) 1 (λ one. omega arith), some))
+
+    pub turn-mark : (t : ℕ) → mark ms i ≤ 2 → (mark ms i ≡ 2 → ⊥) → t ≡ mark ms i → t ≡ turn n (leaves rs ls ps) ms i
+    turn-mark t known other is = is ∙ by (ℕ-discrete (mark ms i) 1)
+      where
+        by : Dec (mark ms i ≡ 1) → mark ms i ≡ turn n (leaves rs ls ps) ms i
+        by (yes one) = one ∙ sym (simp (eq-eqb (mark ms i) 1 one))
+        by (no not-one) =
+            let zero-mark : mark ms i ≡ 0 = omega arith in
+            zero-mark ∙ sym (simp (ne-eqb (mark ms i) 1 not-one, none-unmarked other))

@@ -6,10 +6,10 @@ use mathlib.Core.List.{List}
 use Prim.Native.Nat.{ℕ, suc, _+_, _*_, _^_, _≤_, _<_}
 use native.Mathlib.Nat.{zero-add, mul-le-mul-left, mul-add, mul-one, pow-succ', le-trans}
 use native.Mathlib.Omega.{arith}
-use lib.Dec.{leb, eqb}
+use lib.Dec.{leb, ltb, eqb}
 use lib.ListN.{length, getD}
 use lib.Pow.{pow-pos, pow-mono}
-use borrow.Author.Tests.{leb-false, eq-eqb}
+use borrow.Author.Tests.{leb-false, ltb-false, eq-eqb}
 use Rattle.paper.specs.Outcome.{Outcome, refused, passed}
 use Rattle.paper.proofs.Tests.{no-fault}
 use Rattle.paper.proofs.Scan.{scan-passed, scan-accepted, scan-carry, scan-refused, scan-all}
@@ -44,9 +44,15 @@ module _ (L : ℕ) (ls ms : List ℕ) where
       let none = ap (depthFault L ls ms) (sym (zero-add i)) ∙ scan-all (depthFault L ls ms) (λ j. j) 0 (length ms) i (both .1) inside in
       not-deep (eqb (mark ms i) 1) (getD ls i 0) (eq-eqb (mark ms i) 1 refined) (no-fault (eqb (mark ms i) 1 && leb L (getD ls i 0)) 6 0 none .0)
 
+  pub mark-known : marked L ls ms passed ≡ passed → (i : ℕ) → i < length ms → mark ms i ≤ 2
+  mark-known h i inside =
+      let both = scan-accepted (markFault ms) 0 (numbers (length ms)) _ tt h in
+      let none = ap (markFault ms) (sym (zero-add i)) ∙ scan-all (markFault ms) (λ j. j) 0 (length ms) i (both .0) inside in
+      ltb-false 2 (mark ms i) (no-fault (ltb 2 (mark ms i)) 12 0 none .0)
+
 -- ---- 2^b children
 module _ (b L K : ℕ) (narrow : b * L ≤ 63) (small : L ≤ 254) (vs : List Leaf) (ms : List ℕ) (valid : Valid (2 ^ b) L K vs)
-    (above : (i : ℕ) → i < length vs → mark ms i ≡ 1 → at vs i .level < L) where
+    (known : (i : ℕ) → i < length vs → mark ms i ≤ 2) (above : (i : ℕ) → i < length vs → mark ms i ≡ 1 → at vs i .level < L) where
   children-low : (l p : ℕ) → l < L → p < (2 ^ b) ^ l → 2 ^ b * p + 2 ^ b ≤ 2 ^ 63
   children-low l p deeper below =
       let next : p + 1 ≤ (2 ^ b) ^ l = omega arith in
@@ -59,6 +65,7 @@ module _ (b L K : ℕ) (narrow : b * L ≤ 63) (small : L ≤ 254) (vs : List Le
   ready =
       record {
         siblings = are-siblings (2 ^ b) L (pow-pos b) K (place 0 0) vs valid;
+        known = known;
         low = λ i inside. position-lt b L narrow (at vs i .position) (at vs i .level) (level-at (2 ^ b) L K (place 0 0) vs i valid inside) (position-at (2 ^ b) L K (place 0 0) vs i valid inside);
         shallow = λ i inside refined. let deep = above i inside refined in omega arith;
         narrow = λ i inside refined. children-low (at vs i .level) (at vs i .position) (above i inside refined) (position-at (2 ^ b) L K (place 0 0) vs i valid inside);

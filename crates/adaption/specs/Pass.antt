@@ -7,8 +7,8 @@
 --   newLevel, newPosition   of the first leaf that a turn makes
 --   run r l p k      k leaves of root r and level l, from position p on
 --   made vs ms i     what the turn at leaf i makes
---   Ready            what the pass needs of a list and its marks: n leaves of one level, from a position divisible by n on, are a family;
---                    no level or position that it makes is too large for its type
+--   Ready            what the pass needs of a list and its marks: no mark above 2; n leaves of one level, from a position divisible by n on,
+--                    are a family; no level or position that it makes is too large for its type
 --   Faultless        the contract of the loop over the marks: its answer is 0 only where the first k marks have no fault
 --   Ran, Passed      the contracts of the loops that write: what stands in three columns after a run, and after the whole pass
 --
@@ -54,6 +54,7 @@ module _ (n : ℕ) where
     pub siblings : (j : ℕ) → j + n ≤ length vs → 0 < at vs j .level → at vs j .position % n ≡ 0
         → ((t : ℕ) → t < n → at vs (j + t) .level ≡ at vs j .level)
         → (t : ℕ) → t < n → at vs (j + t) ≡ child n (parent n (at vs j)) t
+    pub known : (i : ℕ) → i < length vs → mark ms i ≤ 2
     pub low : (i : ℕ) → i < length vs → at vs i .position < 2 ^ 63
     pub shallow : (i : ℕ) → i < length vs → mark ms i ≡ 1 → at vs i .level < 255
     pub narrow : (i : ℕ) → i < length vs → mark ms i ≡ 1 → n * at vs i .position + n ≤ 2 ^ 63

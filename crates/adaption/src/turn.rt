@@ -7,33 +7,16 @@ ghost use Rattle.adaption.specs.Adaption.{merging};
 ghost use Rattle.adaption.specs.Pass as pass;
 ghost use Rattle.adaption.specs.Pass.{Ready, gain, stride, newLevel, newPosition};
 
-// What happens at leaf i: 1 it is refined, 2 a merging family begins with it, 0 neither.
-pub(crate) fn turn(
+// Whether leaf i is the first of a family that merges. The leaves of one level from a position divisible by their number on are a family,
+// so no further position is compared.
+pub(crate) fn begins(
     bits: u8,
     roots: &[u16],
     levels: &[u8],
     positions: &[u64],
     marks: &[u8],
     i: usize,
-) -> u8
-    requires { ⌜ (bits < 8) × ((i < length (now roots)) × ((length (now roots) ≡ length (now levels)) × ((length (now roots) ≡ length (now positions)) × ((length (now roots) ≡ length (now marks)) × Ready (2 ^ bits) (leaves (now roots) (now levels) (now positions)) (now marks))))) ⌝ }
-    ensures { λ r. ⌜ r ≡ pass.turn (2 ^ bits) (leaves (now (roots .entry)) (now (levels .entry)) (now (positions .entry))) (now (marks .entry)) i ⌝ }
-{
-    if marks[i] == 1 {
-        return 1;
-    }
-    if marks[i] != 2 {
-        return 0;
-    }
-    if begins(bits, roots, levels, positions, marks, i) {
-        return 2;
-    }
-    0
-}
-
-// Whether leaf i is the first of a family that merges. The leaves of one level from a position divisible by their number on are a family,
-// so no further position is compared.
-fn begins(bits: u8, roots: &[u16], levels: &[u8], positions: &[u64], marks: &[u8], i: usize) -> bool
+) -> bool
     requires { ⌜ (bits < 8) × ((i < length (now roots)) × ((length (now roots) ≡ length (now levels)) × ((length (now roots) ≡ length (now positions)) × ((length (now roots) ≡ length (now marks)) × Ready (2 ^ bits) (leaves (now roots) (now levels) (now positions)) (now marks))))) ⌝ }
     ensures { λ r. ⌜ r ≡ merging (2 ^ bits) (leaves (now (roots .entry)) (now (levels .entry)) (now (positions .entry))) (now (marks .entry)) i ⌝ }
 {
