@@ -9,9 +9,9 @@ use lib.ListN.{length}
 use borrow.Author.Tests.{lt-ltb, le-ltb, eq-eqb, ne-eqb}
 use Rattle.paper.specs.Outcome.{Outcome, accepted, refused, passed}
 use Rattle.leaves.specs.Leaves.{Leaf, leaves}
-use Rattle.leaves.specs.Laws.{at}
+use Rattle.leaves.specs.Laws.{at, ValidList}
 use Rattle.leaves.specs.Calls.{outOfRange, equalColumns, listed}
-use Rattle.leaves.proofs.Listed.{SoundColumns, at-leaves, leaves-length, columns-sound, listed-passed, listed-refused}
+use Rattle.leaves.proofs.Listed.{at-leaves, leaves-length, columns-sound, listed-passed, listed-refused}
 use Rattle.adaption.specs.Adaption.{mark, adapted}
 use Rattle.adaption.specs.Calls.{marked, sized, adaption, Adapted}
 use Rattle.adaption.specs.Pass.{Ready, Passed}
@@ -56,7 +56,7 @@ module _ (k : ℕ) (rs ls ps ms nr nl np : List ℕ) where
           onward : call ≡ marked 21 ls ms (sized size (length nr))
           onward = fitting _ ∙ listed-passed 8 21 k true true rs ls ps _ sound
 
-          pub columns-of : SoundColumns 8 21 k rs ls ps
+          pub columns-of : ValidList 8 21 k rs ls ps
           columns-of = columns-sound 8 21 k true true rs ls ps sound
 
           pub marks-refused : (fault spot : ℕ) → marked 21 ls ms passed ≡ refused fault spot → refused fault spot ≡ call

@@ -14,3 +14,4 @@ pub mod Covering
 pub mod Validity
 pub mod Keeping
 pub mod Promised
+pub mod Elements

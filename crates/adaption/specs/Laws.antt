@@ -7,20 +7,25 @@
 --   Started, Step     an accepted uniform start, an accepted adaption, and the list that it gives
 --   Reached K s ws    the list ws is reached from a uniform start by s accepted adaptions, one after the other
 --   Promised          all of it
+--   elementOf S v     the element of a shape that a leaf is
+--   Tied S            a leaf's children and its parent are the element's, and leaves that are a family here are one there: "yes exactly when
+--                     the given elements are all children of one parent, in order"
 --
 -- Assumes nothing.
 use mathlib.Core.Path.{_≡_}
 use mathlib.Core.Logic.{_↔_}
 use mathlib.Core.Bool.{Bool, true}
-use mathlib.Core.List.{List, [], _∷_, map}
-use Prim.Native.Nat.{ℕ, zero, suc, _+_, _≤_, _<_}
+use mathlib.Core.List.{List, [], _∷_}
+use Prim.Native.Nat.{ℕ, zero, suc, _+_, _^_, _≤_, _<_}
 use lib.ListN.{length}
-use Rattle.paper.specs.Outcome.{accepted}
-use Rattle.leaves.specs.Leaves.{Leaf, Valid}
+use Rattle.paper.specs.Outcome.{accepted, rows}
+use Rattle.tree.specs.Shape.{Shape}
+use Rattle.tree.specs.Words as words
+use Rattle.leaves.specs.Leaves.{Leaf, rootsOf, levelsOf, positionsOf, Valid}
 use Rattle.leaves.specs.Laws.{at}
 use Rattle.leaves.specs.Leaves as leaves
 use Rattle.leaves.specs.Calls as calls
-use Rattle.adaption.specs.Adaption.{mark, child, parent, childrenOf, merging, gives, adapted}
+use Rattle.adaption.specs.Adaption.{mark, child, parent, childrenOf, family, merging, gives, adapted}
 use Rattle.adaption.specs.Calls.{adaption}
 
 pub record Marked (ms : List ℕ) (m i k N : ℕ) : Type 0 where
@@ -59,7 +64,7 @@ module _ (n : ℕ) where
       pub equal : Bool
       pub room : ℕ
       pub size : ℕ
-      pub accepts : adaption n L K (map (λ (v : Leaf). v .root) vs) (map (λ (v : Leaf). v .level) vs) (map (λ (v : Leaf). v .position) vs) marks equal room ≡ accepted size
+      pub accepts : adaption n L K (rootsOf vs) (levelsOf vs) (positionsOf vs) marks equal room ≡ accepted size
       pub result : ws ≡ adapted n vs marks
 
     unfoldable pub Reached : ℕ → ℕ → List Leaf → Type 0
@@ -73,3 +78,18 @@ module _ (n : ℕ) where
       pub unmarked : (vs : List Leaf) (ms : List ℕ) → ((i : ℕ) → i < length vs → mark ms i ≡ 0) → adapted n vs ms ≡ vs
       pub undone : (vs : List Leaf) (ms ms′ : List ℕ) (i : ℕ) → i < length vs → Marked ms 1 i 1 (length vs)
           → Marked ms′ 2 i n (length (adapted n vs ms)) → adapted n (adapted n vs ms) ms′ ≡ vs
+
+module _ {E : Type 0} (S : Shape E) where
+  abbrev pub elementOf : Leaf → E
+  elementOf v = words.at S (v .level) (v .position)
+
+  -- a leaf of the shape's levels and positions
+  pub record Stands (v : Leaf) : Type 0 where
+    pub level : v .level ≤ S .highest
+    pub position : v .position < S .children ^ v .level
+
+  pub record Tied : Type 0 where
+    pub children : (v : Leaf) (t : ℕ) → t < S .children → elementOf (child (S .children) v t) ≡ S .child (elementOf v) t
+    pub parents : (v : Leaf) → Stands v → 0 < v .level → elementOf (parent (S .children) v) ≡ S .parent (elementOf v)
+    pub families : (vs : List Leaf) (j : ℕ) → ((i : ℕ) → i < length vs → Stands (at vs i)) → family (S .children) vs j ≡ true
+        → words.family S (rows (λ t. elementOf (at vs (j + t))) 0 (S .children)) ≡ true

@@ -15,14 +15,14 @@
 -- Assumes nothing.
 use mathlib.Core.Path.{_≡_}
 use mathlib.Core.Bool.{cond}
-use mathlib.Core.List.{List, map}
+use mathlib.Core.List.{List}
 use Prim.Native.Nat.{ℕ, _+_, _-_, _*_, _/_, _%_, _^_, _≤_, _<_}
 use lib.Dec.{eqb}
 use lib.ListN.{length}
 use lib.Seq.{sets}
 use Rattle.paper.specs.Outcome.{rows}
 use Rattle.paper.specs.Memory.{written}
-use Rattle.leaves.specs.Leaves.{Leaf, leaf}
+use Rattle.leaves.specs.Leaves.{Leaf, leaf, rootsOf, levelsOf, positionsOf}
 use Rattle.leaves.specs.Laws.{at}
 use Rattle.adaption.specs.Adaption.{mark, child, parent, merging}
 use Rattle.adaption.specs.Calls.{markFault, depthFault}
@@ -63,11 +63,11 @@ abbrev pub Faultless : ℕ → List ℕ → List ℕ → ℕ → ℕ → Type 0
 Faultless L ls ms k r = r ≡ 0 → (j : ℕ) → j < k → (markFault ms j ≡ 0) × (depthFault L ls ms j ≡ 0)
 
 pub record Ran (at : ℕ) (vs : List Leaf) (roots levels positions roots′ levels′ positions′ : List ℕ) : Type 0 where
-  pub in-roots : roots′ ≡ sets roots at (map (λ (v : Leaf). v .root) vs)
-  pub in-levels : levels′ ≡ sets levels at (map (λ (v : Leaf). v .level) vs)
-  pub in-positions : positions′ ≡ sets positions at (map (λ (v : Leaf). v .position) vs)
+  pub in-roots : roots′ ≡ sets roots at (rootsOf vs)
+  pub in-levels : levels′ ≡ sets levels at (levelsOf vs)
+  pub in-positions : positions′ ≡ sets positions at (positionsOf vs)
 
 pub record Passed (vs : List Leaf) (roots levels positions roots′ levels′ positions′ : List ℕ) : Type 0 where
-  pub in-roots : roots′ ≡ written (map (λ (v : Leaf). v .root) vs) roots
-  pub in-levels : levels′ ≡ written (map (λ (v : Leaf). v .level) vs) levels
-  pub in-positions : positions′ ≡ written (map (λ (v : Leaf). v .position) vs) positions
+  pub in-roots : roots′ ≡ written (rootsOf vs) roots
+  pub in-levels : levels′ ≡ written (levelsOf vs) levels
+  pub in-positions : positions′ ≡ written (positionsOf vs) positions

@@ -1,6 +1,7 @@
 -- A smallest cell lies in a leaf exactly when its position, divided by what the leaf holds, is the leaf's: taking a parent divides the
 -- position by the number of children. Assumes nothing.
 use mathlib.Core.Path.{_≡_, ap, ap₂, _∙_, sym, subst}
+use mathlib.Core.List.{List}
 use Prim.Native.Nat.{ℕ, zero, suc, _+_, _-_, _/_, _^_, _≤_, _<_}
 use native.Mathlib.Nat.{div-one, div-div-eq-div-mul, pow-zero, pow-suc}
 use native.Mathlib.Omega.{arith}
@@ -10,9 +11,9 @@ use Rattle.tree.specs.Laws.{Sound, Lawful}
 use Rattle.tree.proofs.RoundTrip.{round-trips}
 use Rattle.tree.proofs.Descent.{positions}
 use Rattle.tree.specs.Words as words
-use Rattle.leaves.specs.Leaves.{Leaf, place}
+use Rattle.leaves.specs.Leaves.{Leaf, place, Valid}
 use Rattle.leaves.specs.Laws.{at, Holds, Once}
-use Rattle.leaves.specs.Cells.{up, InLeaf, OneLeaf, Tied}
+use Rattle.leaves.specs.Cells.{up, InLeaf, OneLeaf, CellsOnce, Tied}
 use Rattle.leaves.proofs.Cells.{once-each}
 use Rattle.leaves.proofs.Entries.{level-at, position-at}
 
@@ -74,8 +75,8 @@ module _ {E : Type 0} (S : Shape E) (W : Lawful S) where
           };
         }
 
-  pub tied : Tied S
-  tied K vs valid r e root sound smallest = by (once-each (S .children) (S .highest) positive K vs valid r (words.position S e) root few)
+  cells-once : (K : ℕ) (vs : List Leaf) → Valid (S .children) (S .highest) K vs → CellsOnce S K vs
+  cells-once K vs valid r e root sound smallest = by (once-each (S .children) (S .highest) positive K vs valid r (words.position S e) root few)
     where
       positive : 0 < S .children
       positive = omega (arith, W .several)
@@ -97,3 +98,10 @@ module _ {E : Type 0} (S : Shape E) (W : Lawful S) where
             holds = of-holds (at vs (o .which)) r e sound smallest (level (o .which) (o .inside)) (position (o .which) (o .inside)) (o .holds);
             only = λ j inside held. o .only j inside (holds-of (at vs j) r e sound smallest (level j inside) (position j inside) held);
           }
+
+  pub tied : Tied S
+  tied =
+      record {
+        once = cells-once;
+        by-position = λ v r e sound smallest shallow below. (holds-of v r e sound smallest shallow below, of-holds v r e sound smallest shallow below);
+      }

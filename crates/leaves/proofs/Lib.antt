@@ -4,7 +4,7 @@ pub mod Span
 pub mod Starting
 pub mod UniformValid
 pub mod Cells
-pub mod Checked
+pub mod Promised
 pub mod Shift
 pub mod Turns
 pub mod Filling

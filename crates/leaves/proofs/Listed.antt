@@ -7,13 +7,13 @@ use native.Mathlib.Nat.{add-zero, add-suc, suc-add, zero-add}
 use native.Mathlib.Omega.{arith}
 use lib.Dec.{ltb, eqb}
 use lib.ListN.{length, getD}
-use borrow.Author.Tests.{ltb-false, eqb-true, eqb-false, not-false}
+use borrow.Author.Tests.{ltb-false, eqb-true, eqb-false, not-false, le-ltb, eq-eqb, ne-eqb}
 use Rattle.paper.specs.Outcome.{Outcome, accepted, refused, passed, rows}
 use Rattle.paper.proofs.Tests.{refused-by, passed-by, or-none}
 use Rattle.paper.proofs.Scan.{accepted-of, accepted-by, carry, rows-length}
 use Rattle.leaves.specs.Leaves.{leaf, leafAt, leaves, place, Valid}
 use Rattle.leaves.specs.Calls.{limit, outOfRange, equalColumns, walked, listed}
-use Rattle.leaves.specs.Laws.{at}
+use Rattle.leaves.specs.Laws.{at, ValidList}
 use Rattle.leaves.proofs.Check.{exactly, walked-passed, walked-accepted, walked-refused}
 
 -- ---- entry i of the list that stands in three columns
@@ -28,14 +28,6 @@ module _ (rs ls ps : List ℕ) where
 
   pub leaves-length : length (leaves rs ls ps) ≡ length rs
   leaves-length = rows-length (leafAt rs ls ps) 0 (length rs)
-
--- what the three columns are known to be
-pub record SoundColumns (n L K : ℕ) (rs ls ps : List ℕ) : Type 0 where
-  pub levels-long : length rs ≡ length ls
-  pub positions-long : length rs ≡ length ps
-  pub some : 0 < length rs
-  pub few : length rs ≤ limit
-  pub valid : Valid n L K (leaves rs ls ps)
 
 module _ (n L K : ℕ) (inRange fitting : Bool) (rs ls ps : List ℕ) where
   abbrev wrongNumber : Bool
@@ -64,7 +56,7 @@ module _ (n L K : ℕ) (inRange fitting : Bool) (rs ls ps : List ℕ) where
         passed-by wrongNumber 17 0 _ number ∙ passed-by (not rightColumns) 11 0 _ (ap not columns) ∙ passed-by wrongLength 11 0 _ size
 
   -- ---- the tests have passed, or have refused; whatever would follow
-  pub columns-sound : listed n L K inRange fitting rs ls ps passed ≡ passed → SoundColumns n L K rs ls ps
+  pub columns-sound : listed n L K inRange fitting rs ls ps passed ≡ passed → ValidList n L K rs ls ps
   columns-sound h =
       let a = accepted-by wrongNumber 17 0 _ h in
       let b = accepted-by (not rightColumns) 11 0 _ (a .1) in
@@ -73,7 +65,10 @@ module _ (n L K : ℕ) (inRange fitting : Bool) (rs ls ps : List ℕ) where
       (and-eq-true-iff (equalColumns rs ls ps) fitting .0 (not-false rightColumns (b .0)) .0) in
       let size = or-none (eqb (length rs) 0) (ltb limit (length rs)) (d .0) in
       let none = eqb-false (length rs) 0 (size .0) in
+      let range = or-none (eqb K 0) (ltb 4096 K) (or-none (outOfRange K) (not inRange) (a .0) .0) in
       record {
+        some-root = above (eqb-false K 0 (range .0));
+        few-roots = ltb-false 4096 K (range .1);
         levels-long = eqb-true (length rs) (length ls) (equal .0);
         positions-long = eqb-true (length rs) (length ps) (equal .1);
         some = above none;
@@ -111,3 +106,16 @@ module _ (n L K : ℕ) (inRange fitting : Bool) (rs ls ps : List ℕ) where
     listed-refused m p =
         carry wrongNumber 17 0 m p _ _
         (carry (not rightColumns) 11 0 m p _ _ (carry wrongLength 11 0 m p _ _ (walked-refused n L K rest 0 m p (place 0 0) (leaves rs ls ps))))
+
+-- ---- the list check
+module _ (n L K : ℕ) (rs ls ps : List ℕ) where
+  pub valid-passes : ValidList n L K rs ls ps → listed n L K true true rs ls ps passed ≡ passed
+  valid-passes v =
+      simp (
+        ne-eqb K 0 (λ none. omega (arith, v .some-root)),
+        le-ltb 4096 K (v .few-roots),
+        eq-eqb (length rs) (length ls) (v .levels-long),
+        eq-eqb (length rs) (length ps) (v .positions-long),
+        ne-eqb (length rs) 0 (λ none. omega (arith, v .some)),
+        le-ltb limit (length rs) (v .few),
+      ) (exactly n L K (leaves rs ls ps) .1 (v .valid))

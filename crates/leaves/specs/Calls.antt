@@ -17,13 +17,13 @@
 -- Assumes nothing.
 use mathlib.Core.Path.{_≡_}
 use mathlib.Core.Bool.{Bool, not, _&&_, _||_}
-use mathlib.Core.List.{List, [], _∷_, map}
+use mathlib.Core.List.{List, [], _∷_}
 use Prim.Native.Nat.{ℕ, suc, _*_, _^_}
 use lib.Dec.{leb, ltb, eqb}
 use lib.ListN.{length}
 use Rattle.paper.specs.Outcome.{Outcome, accepted, refuse-when, refuse-when-at, fault-when}
 use Rattle.paper.specs.Memory.{lent}
-use Rattle.leaves.specs.Leaves.{Leaf, leaves, Place, place, begin, endOf}
+use Rattle.leaves.specs.Leaves.{Leaf, leaves, rootsOf, levelsOf, positionsOf, Place, place, begin, endOf}
 
 abbrev pub limit : ℕ
 limit = 1048576
@@ -35,9 +35,9 @@ abbrev pub equalColumns : List ℕ → List ℕ → List ℕ → Bool
 equalColumns roots levels positions = eqb (length roots) (length levels) && eqb (length roots) (length positions)
 
 pub record Columns {A : Type 0} (o : Outcome A) (vs : List Leaf) (roots levels positions roots′ levels′ positions′ : List ℕ) : Type 0 where
-  pub roots-after : roots′ ≡ lent o (map (λ (v : Leaf). v .root) vs) roots
-  pub levels-after : levels′ ≡ lent o (map (λ (v : Leaf). v .level) vs) levels
-  pub positions-after : positions′ ≡ lent o (map (λ (v : Leaf). v .position) vs) positions
+  pub roots-after : roots′ ≡ lent o (rootsOf vs) roots
+  pub levels-after : levels′ ≡ lent o (levelsOf vs) levels
+  pub positions-after : positions′ ≡ lent o (positionsOf vs) positions
 
 module _ (n L : ℕ) where
   -- the leaf starts where the list has come to, in one of the K roots

@@ -7,18 +7,20 @@
 --   InLeaf S v r e    the smallest cell e of root r lies in the leaf v
 --   OneLeaf           it lies in exactly one leaf of a list
 --   CellsOnce S K vs  each smallest cell of each of the K roots does
---   Tied S            all valid lists are so, at the shape's number of children and highest level
+--   Tied S            all valid lists are so, at the shape's number of children and highest level; and a smallest cell lies in a leaf exactly
+--                     when its position, divided by the cells that the leaf holds, is the leaf's
 --
 -- Assumes nothing.
 use mathlib.Core.Path.{_≡_}
+use mathlib.Core.Logic.{_↔_}
 use mathlib.Core.List.{List}
-use Prim.Native.Nat.{ℕ, zero, suc, _≤_, _<_}
+use Prim.Native.Nat.{ℕ, zero, suc, _^_, _≤_, _<_}
 use lib.ListN.{length}
 use Rattle.tree.specs.Shape.{Shape}
 use Rattle.tree.specs.Laws.{Sound}
 use Rattle.tree.specs.Words as words
 use Rattle.leaves.specs.Leaves.{Leaf, Valid}
-use Rattle.leaves.specs.Laws.{at}
+use Rattle.leaves.specs.Laws.{at, Holds}
 
 module _ {E : Type 0} (S : Shape E) where
   unfoldable pub up : ℕ → E → E
@@ -44,5 +46,7 @@ module _ {E : Type 0} (S : Shape E) where
   abbrev pub CellsOnce : ℕ → List Leaf → Type 0
   CellsOnce K vs = (r : ℕ) (e : E) → r < K → Sound S e → S .level e ≡ S .highest → OneLeaf vs r e
 
-  abbrev pub Tied : Type 0
-  Tied = (K : ℕ) (vs : List Leaf) → Valid (S .children) (S .highest) K vs → CellsOnce K vs
+  pub record Tied : Type 0 where
+    pub once : (K : ℕ) (vs : List Leaf) → Valid (S .children) (S .highest) K vs → CellsOnce K vs
+    pub by-position : (v : Leaf) (r : ℕ) (e : E) → Sound S e → S .level e ≡ S .highest → v .level ≤ S .highest
+        → v .position < S .children ^ v .level → InLeaf v r e ↔ Holds (S .children) (S .highest) v r (words.position S e)

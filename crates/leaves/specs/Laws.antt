@@ -1,20 +1,24 @@
 -- What is promised of leaf lists, as statements, over the number of children and the highest level. Definitions only.
 --
---   Holds v r q       smallest cell q of root r lies in the leaf v: the leaf is of that root and the cell's ancestor of the leaf's level has
---                     the leaf's position. "It lies in itself and in each prism reached from it by taking parents": that a position's
---                     parent is the element's parent is `Positions` of `tree`
---   OnceEach K vs     each smallest cell of each root lies in exactly one leaf
---   Checked           the list check accepts exactly the valid lists
+--   at vs j           leaf j of a list
+--   ValidList         "A list is three columns of equal length: root, level, position; 1 to 1,048,576 leaves. It is valid for K roots when .."
+--   Holds v r q       smallest cell q of root r lies in the leaf v, by its position: the leaf is of that root, and the cell's position divided by
+--                     the cells that the leaf holds is the leaf's. `Cells.antt` says it by taking parents, and that the two agree
+--   Once vs r q       cell q of root r lies in exactly one leaf
+--   OnceEach K vs     each smallest cell of each root does
+--   Promised          the list check accepts exactly the valid lists, and whatever a list call accepts is one; a valid list holds each cell
+--                     once; a uniform list is valid and as long as the call says
 --
 -- Assumes nothing.
 use mathlib.Core.Path.{_≡_}
 use mathlib.Core.Logic.{_↔_}
+use mathlib.Core.Bool.{Bool, true}
 use mathlib.Core.List.{List}
-use Prim.Native.Nat.{ℕ, _/_, _^_, _≤_, _<_}
+use Prim.Native.Nat.{ℕ, _*_, _/_, _^_, _≤_, _<_}
 use lib.ListN.{length, getD}
-use Rattle.paper.specs.Outcome.{passed}
-use Rattle.leaves.specs.Leaves.{Leaf, leaf, place, Valid, uniform, span}
-use Rattle.leaves.specs.Calls.{walked}
+use Rattle.paper.specs.Outcome.{Outcome, accepted, passed}
+use Rattle.leaves.specs.Leaves.{Leaf, leaf, leaves, Valid, uniform, span}
+use Rattle.leaves.specs.Calls.{limit, listed}
 
 -- leaf j of a list
 abbrev pub at : List Leaf → ℕ → Leaf
@@ -35,7 +39,19 @@ module _ (n L : ℕ) where
   abbrev pub OnceEach : ℕ → List Leaf → Type 0
   OnceEach K vs = (r q : ℕ) → r < K → q < n ^ L → Once vs r q
 
-  pub record Checked : Type 0 where
-    pub exactly : (K : ℕ) (vs : List Leaf) → (walked n L K 0 (place 0 0) vs passed ≡ passed) ↔ Valid n L K vs
+  pub record ValidList (K : ℕ) (roots levels positions : List ℕ) : Type 0 where
+    pub some-root : 0 < K
+    pub few-roots : K ≤ 4096
+    pub levels-long : length roots ≡ length levels
+    pub positions-long : length roots ≡ length positions
+    pub some : 0 < length roots
+    pub few : length roots ≤ limit
+    pub valid : Valid n L K (leaves roots levels positions)
+
+  pub record Promised : Type 1 where
+    pub exactly : (K : ℕ) (roots levels positions : List ℕ) → listed n L K true true roots levels positions passed ≡ passed ↔ ValidList K roots levels positions
+    pub accepts : {A : Type 0} (K : ℕ) (inRange fitting : Bool) (roots levels positions : List ℕ) (rest : Outcome A) (a : A)
+        → listed n L K inRange fitting roots levels positions rest ≡ accepted a → ValidList K roots levels positions
     pub once-each : (K : ℕ) (vs : List Leaf) → Valid n L K vs → OnceEach K vs
     pub of-uniform : (K l : ℕ) → l ≤ L → Valid n L K (uniform n L K l)
+    pub uniform-long : (K l : ℕ) → length (uniform n L K l) ≡ K * n ^ l

@@ -3,6 +3,7 @@
 --   Leaf             "root, level, position"
 --   leafAt i         entry i of three columns
 --   leaves           all of them
+--   rootsOf, levelsOf, positionsOf   the columns of a list of leaves
 --   span n L l       how many smallest cells "a leaf of level l holds": n^(L-l)
 --   begin, past      the first smallest cell of its root that a leaf holds, and the first after them
 --   Place            where a leaf may start: a root, and a smallest cell of it
@@ -14,7 +15,7 @@
 -- Assumes nothing.
 use mathlib.Core.Path.{_≡_}
 use mathlib.Core.Bool.{cond}
-use mathlib.Core.List.{List, [], _∷_}
+use mathlib.Core.List.{List, [], _∷_, map}
 use Prim.Native.Nat.{ℕ, _+_, _-_, _*_, _/_, _%_, _^_, _≤_, _<_}
 use lib.Dec.{eqb}
 use lib.ListN.{length, getD}
@@ -33,6 +34,15 @@ leafAt roots levels positions i = leaf (getD roots i 0) (getD levels i 0) (getD 
 
 abbrev pub leaves : List ℕ → List ℕ → List ℕ → List Leaf
 leaves roots levels positions = rows (leafAt roots levels positions) 0 (length roots)
+
+abbrev pub rootsOf : List Leaf → List ℕ
+rootsOf vs = map (λ (v : Leaf). v .root) vs
+
+abbrev pub levelsOf : List Leaf → List ℕ
+levelsOf vs = map (λ (v : Leaf). v .level) vs
+
+abbrev pub positionsOf : List Leaf → List ℕ
+positionsOf vs = map (λ (v : Leaf). v .position) vs
 
 pub record Place : Type 0 where
   pub root : ℕ

@@ -1,4 +1,4 @@
--- Demand 2 for elements: each part is a law of its crate, at the three shapes. Assumes nothing.
+-- Demand 2 for elements and leaf lists: each part is a law of its crate, at the three shapes. Assumes nothing.
 use mathlib.Core.Path.{_≡_, ap, _∙_, sym, refl}
 use mathlib.Core.List.{List}
 use Prim.Native.Nat.{ℕ}
@@ -28,10 +28,11 @@ use Rattle.paper.specs.declared.TruthAnswer.{TruthAnswer}
 use Rattle.paper.specs.declared.OrderAnswer.{OrderAnswer}
 use Rattle.paper.specs.declared.PassAnswer.{PassAnswer}
 use Rattle.paper.specs.Readings.{valueOf, truthOf, orderOf, passOf}
-use Rattle.leaves.proofs.Checked.{checked}
 use Rattle.leaves.proofs.Ancestors.{tied}
 use Rattle.balance.proofs.Exactly.{exact}
+use Rattle.leaves.proofs.Promised as leaves-laws
 use Rattle.adaption.proofs.Promised as adaption-laws
+use Rattle.adaption.proofs.Elements as adaption-ties
 use Rattle.shares.proofs.Promised as shares-laws
 use native.Mathlib.Omega.{arith}
 use Rattle.line.proofs.Laws as line-laws
@@ -147,8 +148,9 @@ of-elements =
 pub of-lists : OfLists
 of-lists =
     record {
-      checked = checked 8 21 (omega arith);
+      listed = leaves-laws.promised 8 21 (omega arith);
       cells = tied prism (prism-laws.lawful 21);
+      relatives = adaption-ties.tied prism (prism-laws.lawful 21);
       adapted = adaption-laws.promised 8 21 (omega arith);
       shared = shares-laws.promised;
       balanced = exact;

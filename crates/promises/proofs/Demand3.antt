@@ -1,20 +1,21 @@
 -- Demand 3: the cells are those of a valid list, the shares are fair, and an accepted call of shares found both. Assumes nothing.
-use mathlib.Core.Path.{_≡_, _∙_}
+use mathlib.Core.Path.{_≡_, ap, _∙_}
 use mathlib.Core.Bool.{true, not}
-use mathlib.Core.List.{List}
-use Prim.Native.Nat.{ℕ, _<_}
+use mathlib.Core.List.{List, [], _∷_}
+use Prim.Native.Nat.{ℕ, zero, suc, _<_}
 use native.Mathlib.Omega.{arith}
 use lib.Dec.{ltb, eqb}
 use lib.ListN.{length, getD}
 use borrow.Author.Tests.{eqb-true, eqb-false, not-true}
 use Rattle.paper.specs.Outcome.{passed}
 use Rattle.paper.proofs.Tests.{or-none, no-fault}
-use Rattle.paper.proofs.Scan.{scan-accepted, scan-each}
+use Rattle.paper.proofs.Scan.{accepted-of, scan-accepted, scan-each}
 use Rattle.prism.specs.Elements.{prismTo, prism}
-use Rattle.leaves.specs.Leaves.{Leaf, leaves, Valid}
+use Rattle.leaves.specs.Leaves.{Leaf, leaves, Place, Covers, Valid}
 use Rattle.leaves.specs.Calls.{outOfRange}
 use Rattle.leaves.proofs.Ancestors.{tied}
 use Rattle.leaves.proofs.Listed.{columns-sound, listed-accepted, listed-fits, leaves-length}
+use Rattle.adaption.specs.Laws.{Reached}
 use Rattle.shares.specs.Calls.{weightFault, shares}
 use Rattle.shares.specs.Laws.{Fair, Weighty}
 use Rattle.prism.proofs.Laws as prism-laws
@@ -22,15 +23,21 @@ use Rattle.adaption.proofs.Promised as adaption-laws
 use Rattle.shares.proofs.Promised as shares-laws
 use Rattle.promises.specs.Demand3.{Divided, OfGrids}
 
-of-valid : (K P : ℕ) (vs : List Leaf) (ws : List ℕ) → Valid 8 21 K vs → 0 < length vs → length ws ≡ length vs → Weighty ws → 0 < P → Divided K P vs ws
+-- the leaves of one root at least are some
+some-leaf : (K : ℕ) (vs : List Leaf) → 0 < K → Valid 8 21 K vs → 0 < length vs
+unfolding Covers
+some-leaf K [] some valid = absurd (let none : 0 ≡ K = ap (λ (p : Place). p .root) valid in omega arith)
+some-leaf K (v ∷ vs) some valid = omega arith
+
+of-list : (K P : ℕ) (vs : List Leaf) (ws : List ℕ) → Valid 8 21 K vs → 0 < length vs → length ws ≡ length vs → Weighty ws → 0 < P → Divided K P vs ws
 unfolding prismTo
-of-valid K P vs ws valid some long weighty positive = by (shares-laws.promised .fair P ws positive weighty (omega arith))
+of-list K P vs ws valid some long weighty positive = by (shares-laws.promised .fair P ws positive weighty (omega arith))
   where
     by : Fair P ws → Divided K P vs ws
     by fair =
         record {
           owner = λ r cell root sound smallest.
-              let one = tied prism (prism-laws.lawful 21) K vs valid r cell root sound smallest in
+              let one = tied prism (prism-laws.lawful 21) .once K vs valid r cell root sound smallest in
               record { listed = one; shared = fair .one-share (one .which) (omega (arith, one .inside)) };
           from-none = fair .from-none;
           rising = fair .rising;
@@ -60,8 +67,26 @@ of-accepted K P rs ls ps ws room h =
     let sound = columns-sound 8 21 K (not (outOfRange P)) (eqb (length rs) (length ws)) rs ls ps (inside .0) in
     let weights = scan-accepted weightFault 0 ws _ tt (inside .1) in
     let long = eqb-true (length rs) (length ws) (fits .1) in
-    of-valid K P (leaves rs ls ps) ws (sound .valid) (omega (arith, sound .some, leaves-length rs ls ps)) (omega (arith, long, leaves-length rs ls ps))
+    of-list K P (leaves rs ls ps) ws (sound .valid) (omega (arith, sound .some, leaves-length rs ls ps)) (omega (arith, long, leaves-length rs ls ps))
     (λ j below. weight-some (getD ws j 0) (scan-each weightFault 0 ws 0 j (weights .0) below)) (shares-some P (fits .0))
 
+-- ---- a reached grid has a root
+reached-root : (K s : ℕ) (vs : List Leaf) → Reached 8 21 K s vs → 0 < K
+unfolding Reached
+reached-root K zero vs start =
+    let range = accepted-of (outOfRange K) 17 0 _ (start .size) (start .accepts) in
+    above (eqb-false K 0 (or-none (eqb K 0) (ltb 4096 K) (range .0) .0))
+  where
+    above : {m : ℕ} → (m ≡ 0 → ⊥) → 0 < m
+    above {m} none = omega arith
+reached-root K (suc s) vs (us, (reached, step)) = reached-root K s us reached
+
 pub of-grids : OfGrids
-of-grids = record { of-valid = of-valid; of-reached = λ K s vs. adaption-laws.promised 8 21 (omega arith) .reached K s vs; of-accepted = of-accepted }
+of-grids =
+    record {
+      of-valid = λ K P vs ws some valid. of-list K P vs ws valid (some-leaf K vs some valid);
+      of-reached = λ K s P vs ws reached.
+          let valid = adaption-laws.promised 8 21 (omega arith) .reached K s vs reached in
+          of-list K P vs ws valid (some-leaf K vs (reached-root K s vs reached) valid);
+      of-accepted = of-accepted;
+    }

@@ -1,11 +1,13 @@
--- The order's second demand, for elements: "Positions are those of the prism index .. An element's position is its rank among all elements
+-- The order's second demand, for elements and leaf lists: "Positions are those of the prism index .. An element's position is its rank among all elements
 -- of its level in that order, and each position below eight to the power of the level gives back its element." Definitions only.
 --
 --   Elements      what is promised of one shape, with its index and its faces
 --   Determined f  two answers with the same reading are the same answer
 --   OfElements    demand 2, of the elements of all three shapes
---   OfLists       demand 2, of leaf lists: the list check is exact, each smallest cell lies in one leaf, adaption is the paper's one pass,
---                 boundaries are the paper's, balanced is the paper's; files and points have their own
+--   Answers       of every enum that a call answers
+--   OfLists       demand 2, of leaf lists: the list check is exact, each smallest cell lies in one leaf, a leaf's relatives are the
+--                 prism's, adaption is the paper's one pass, boundaries are the paper's, balanced is the paper's; files and points have
+--                 their own
 --
 -- Assumes nothing.
 use mathlib.Core.Path.{_≡_}
@@ -17,9 +19,9 @@ use Rattle.tree.specs.Laws.{Lawful, RoundTrips, Positions, TotalOrder, Families
 use Rattle.triangle.specs.Points.{Bey}
 use Rattle.index.specs.Index.{lineIndex, triangleIndex, prismIndex}
 use Rattle.index.specs.Rank.{Ranked}
-use Rattle.leaves.specs.Laws.{Checked}
 use Rattle.leaves.specs.Cells.{Tied}
 use Rattle.balance.specs.Balance.{Exact}
+use Rattle.leaves.specs.Laws as leaves
 use Rattle.adaption.specs.Laws as adaption
 use Rattle.shares.specs.Laws as shares
 use Rattle.line.specs.Elements as lines
@@ -58,9 +60,10 @@ pub record OfElements : Type 0 where
   pub faces-by-definition-27 : prism-points.Definition27 21
   pub determined : Answers
 
-pub record OfLists : Type 0 where
-  pub checked : Checked 8 21
+pub record OfLists : Type 1 where
+  pub listed : leaves.Promised 8 21
   pub cells : Tied prisms.prism
+  pub relatives : adaption.Tied prisms.prism
   pub adapted : adaption.Promised 8 21
   pub shared : shares.Promised
   pub balanced : Exact

@@ -5,8 +5,8 @@
 --
 --   Owner        a smallest cell lies in exactly one listed prism, and that prism in exactly one share
 --   Divided      the grid vs of K roots, with the weights ws, among P machines
---   OfGrids      demand 3: of any valid grid, and of what any accepted call of shares writes; every grid that accepted adaptions reach from
---                a uniform start is valid, and so is the grid of any accepted list call
+--   OfGrids      demand 3: of any valid grid, of any grid that accepted adaptions reach from a uniform start, and of what any accepted call of
+--                shares writes. A loaded grid joins with the grid file
 --
 -- Assumes nothing.
 use mathlib.Core.Path.{_≡_}
@@ -37,8 +37,9 @@ pub record Divided (K P : ℕ) (vs : List Leaf) (ws : List ℕ) : Type 0 where
   pub not-far-below : (s : ℕ) → s < P → total ws < P * weight P ws s + P * heaviest ws
 
 pub record OfGrids : Type 0 where
-  pub of-valid : (K P : ℕ) (vs : List Leaf) (ws : List ℕ) → Valid 8 21 K vs → 0 < length vs → length ws ≡ length vs → Weighty ws → 0 < P
+  pub of-valid : (K P : ℕ) (vs : List Leaf) (ws : List ℕ) → 0 < K → Valid 8 21 K vs → length ws ≡ length vs → Weighty ws → 0 < P
       → Divided K P vs ws
-  pub of-reached : (K s : ℕ) (vs : List Leaf) → Reached 8 21 K s vs → Valid 8 21 K vs
+  pub of-reached : (K s P : ℕ) (vs : List Leaf) (ws : List ℕ) → Reached 8 21 K s vs → length ws ≡ length vs → Weighty ws → 0 < P
+      → Divided K P vs ws
   pub of-accepted : (K P : ℕ) (roots levels positions weights : List ℕ) (room : ℕ)
       → shares 8 21 K P roots levels positions weights room ≡ passed → Divided K P (leaves roots levels positions) weights

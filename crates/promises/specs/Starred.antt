@@ -7,33 +7,38 @@
 --
 -- Assumes nothing.
 use mathlib.Core.Path.{_≡_}
+use mathlib.Core.Bool.{true}
 use mathlib.Core.List.{List, [], _∷_, _++_}
-use Prim.Native.Nat.{ℕ}
+use Prim.Native.Nat.{ℕ, _+_}
 use lib.ListN.{replicate}
-use Rattle.paper.specs.Outcome.{Outcome, accepted, refused}
+use Rattle.paper.specs.Outcome.{Outcome, accepted, refused, passed, rows}
 use Rattle.prism.specs.declared.Prism.{Prism}
 use Rattle.prism.specs.Elements.{prism}
-use Rattle.leaves.specs.Leaves.{Leaf, uniform}
+use Rattle.leaves.specs.Leaves.{Leaf, leaf, rootsOf, levelsOf, positionsOf, uniform}
 use Rattle.adaption.specs.Adaption.{adapted}
-use Rattle.adaption.specs.Pass.{run}
-use Rattle.shares.specs.Shares as shares
+use Rattle.adaption.specs.Calls.{adaption}
+use Rattle.shares.specs.Calls.{shares}
+use Rattle.leaves.specs.Calls as lists
+use Rattle.shares.specs.Shares as parts
 use Rattle.tree.specs.Calls
 
 pub data Case : Type 0 where
   element : Outcome Prism → Outcome Prism → Case
   number : Outcome ℕ → Outcome ℕ → Case
   list : List Leaf → List Leaf → Case
+  shared : Outcome (Unit {0}) → Case
   boundaries : List ℕ → List ℕ → Case
 
-abbrev pub Holds : Case → Type 0
-Holds (element given said) = given ≡ said
-Holds (number given said) = given ≡ said
-Holds (list given said) = given ≡ said
-Holds (boundaries given said) = given ≡ said
+abbrev pub Agrees : Case → Type 0
+Agrees (element given said) = given ≡ said
+Agrees (number given said) = given ≡ said
+Agrees (list given said) = given ≡ said
+Agrees (shared given) = given ≡ passed
+Agrees (boundaries given said) = given ≡ said
 
 abbrev pub AllHold : List Case → Type 0
 AllHold [] = Unit {0}
-AllHold (case ∷ cases) = Holds case × AllHold cases
+AllHold (case ∷ cases) = Agrees case × AllHold cases
 
 abbrev H : ℕ
 H = 1048576
@@ -46,11 +51,25 @@ abbrev is : ℕ → ℕ → ℕ → ℕ → ℕ → Prism
 is l x y z t = record { x = x; y = y; z = z; level = l; kind = t }
 
 -- the leaves of root 0 that a file's runs stand for: level 1 from position 0 to 7; and with leaf 2 refined
+abbrev run : ℕ → ℕ → ℕ → List Leaf
+run l p k = rows (λ t. leaf 0 l (p + t)) 0 k
+
 abbrev level1 : List Leaf
-level1 = run 0 1 0 8
+level1 = run 1 0 8
 
 abbrev refined2 : List Leaf
-refined2 = run 0 1 0 2 ++ run 0 2 16 8 ++ run 0 1 3 5
+refined2 = run 1 0 2 ++ run 2 16 8 ++ run 1 3 5
+
+-- the marks: leaf 2 alone refined; all fifteen to merge
+abbrev refine2 : List ℕ
+refine2 = 0 ∷ 0 ∷ 1 ∷ 0 ∷ 0 ∷ 0 ∷ 0 ∷ 0 ∷ []
+
+abbrev merge15 : List ℕ
+merge15 = replicate 15 2
+
+-- the call of adaption on the columns of a list, with so much room
+abbrev adapting : List Leaf → List ℕ → ℕ → Outcome ℕ
+adapting vs ms room = adaption 8 21 1 (rootsOf vs) (levelsOf vs) (positionsOf vs) ms true room
 
 unfoldable pub starred : List Case
 starred =
@@ -77,9 +96,13 @@ starred =
     ∷ element (Calls.parent prism (is 0 0 0 0 0)) (refused 6 0)
     -- Uniform K=1, level 1 (eight leaves of level 1). Refining leaf 2 (two of level 1, eight of level 2, five of level 1). All marked 2
     -- next: the first again. The files themselves join with the grid file.
+    ∷ number (lists.uniform 8 21 1 1 true 8) (accepted 8)
     ∷ list (uniform 8 21 1 1) level1
-    ∷ list (adapted 8 level1 (0 ∷ 0 ∷ 1 ∷ 0 ∷ 0 ∷ 0 ∷ 0 ∷ 0 ∷ [])) refined2
-    ∷ list (adapted 8 refined2 (replicate 15 2)) level1
+    ∷ number (adapting level1 refine2 15) (accepted 15)
+    ∷ list (adapted 8 level1 refine2) refined2
+    ∷ number (adapting refined2 merge15 8) (accepted 8)
+    ∷ list (adapted 8 refined2 merge15) level1
     -- Weights 1, 1, 1, 5 on four roots, P=2: boundaries 0, 3, 4.
-    ∷ boundaries (shares.boundaries 2 (1 ∷ 1 ∷ 1 ∷ 5 ∷ [])) (0 ∷ 3 ∷ 4 ∷ [])
+    ∷ shared (shares 8 21 4 2 (0 ∷ 1 ∷ 2 ∷ 3 ∷ []) (replicate 4 0) (replicate 4 0) (1 ∷ 1 ∷ 1 ∷ 5 ∷ []) 3)
+    ∷ boundaries (parts.boundaries 2 (1 ∷ 1 ∷ 1 ∷ 5 ∷ [])) (0 ∷ 3 ∷ 4 ∷ [])
     ∷ []

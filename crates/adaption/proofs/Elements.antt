@@ -1,0 +1,80 @@
+-- A leaf's child, parent and family are the element's: the element at a position is the child, by the last digit, of the element at the
+-- position without it. Assumes nothing.
+use mathlib.Core.Path.{_≡_, refl, ap, ap₂, _∙_, sym, subst, subst⁻¹}
+use mathlib.Core.Bool.{Bool, true, and-eq-true-iff, _&&_}
+use mathlib.Core.List.{List, _∷_}
+use Prim.Native.Nat.{ℕ, zero, suc, _+_, _-_, _*_, _/_, _%_, _^_, _≤_, _<_}
+use native.Mathlib.Nat.{add-zero, zero-add, suc-add, add-suc, mul-comm, mul-add-mod-self-left, mod-eq-of-lt, mod-lt, div-lt-iff-lt-mul, pow-suc}
+use native.Mathlib.Numerals.{add-one}
+use native.Mathlib.Omega.{arith}
+use lib.Dec.{leb, ltb}
+use lib.ListN.{length}
+use borrow.Author.Tests.{ltb-true, leb-true}
+use Rattle.paper.specs.Outcome.{rows}
+use Rattle.tree.specs.Shape.{Shape}
+use Rattle.tree.specs.Laws.{Sound, Lawful, childrenOf}
+use Rattle.tree.proofs.RoundTrip.{round-trips}
+use Rattle.tree.proofs.Family.{families}
+use Rattle.tree.specs.Words as words
+use Rattle.leaves.specs.Leaves.{Leaf, leaf}
+use Rattle.leaves.specs.Laws.{at}
+use Rattle.leaves.proofs.Span.{quotient}
+use Rattle.adaption.specs.Adaption.{every, same, child, parent, family}
+use Rattle.adaption.specs.Laws.{elementOf, Stands, Tied}
+use Rattle.adaption.proofs.Family.{every-all, same-is}
+
+module _ {E : Type 0} (S : Shape E) (W : Lawful S) where
+  -- one level down
+  down : (l q : ℕ) → words.at S (suc l) q ≡ S .child (words.at S l (q / S .children)) (q % S .children)
+  unfolding words.at
+  down l q = refl
+
+  of-child : (v : Leaf) (t : ℕ) → t < S .children → elementOf S (child (S .children) v t) ≡ S .child (elementOf S v) t
+  of-child v t below =
+      let place : S .children * v .position + t ≡ v .position * S .children + t = ap (λ (k : ℕ). k + t) (mul-comm (S .children) (v .position)) in
+      ap (λ (l : ℕ). words.at S l (S .children * v .position + t)) (add-one (v .level))
+      ∙ down (v .level) (S .children * v .position + t)
+      ∙ ap₂ (λ (q i : ℕ). S .child (words.at S (v .level) q) i) (quotient (S .children) (v .position) t (S .children * v .position + t) place below)
+      (mul-add-mod-self-left (S .children) (v .position) t ∙ mod-eq-of-lt below)
+
+  -- the parent of a leaf stands one level up
+  module _ (v : Leaf) (stands : Stands S v) (deep : 0 < v .level) where
+    positive : 0 < S .children
+    positive = omega (arith, W .several)
+
+    one-more : v .level ≡ suc (v .level - 1)
+    one-more = omega arith
+
+    up-below : v .position / S .children < S .children ^ (v .level - 1)
+    up-below = div-lt-iff-lt-mul positive .1 (subst (λ (k : ℕ). v .position < k) (ap (λ (l : ℕ). S .children ^ l) one-more ∙ pow-suc (S .children) (v .level - 1)) (stands .position))
+
+    pub up-sound : Sound S (elementOf S (parent (S .children) v))
+    up-sound = round-trips S W .at-sound (v .level - 1) (v .position / S .children) (omega (arith, stands .level)) up-below
+
+    pub up-above : S .level (elementOf S (parent (S .children) v)) < S .highest
+    up-above = omega (arith, stands .level, round-trips S W .at-level (v .level - 1) (v .position / S .children))
+
+    of-parent : elementOf S (parent (S .children) v) ≡ S .parent (elementOf S v)
+    of-parent =
+        sym (ap (λ (l : ℕ). S .parent (words.at S l (v .position))) one-more ∙ ap (S .parent) (down (v .level - 1) (v .position))
+        ∙ W .parent-child (elementOf S (parent (S .children) v)) (v .position % S .children) up-sound up-above (mod-lt (v .position) positive))
+
+  same-rows : (f g : ℕ → E) (m i k : ℕ) → i + k ≡ m → ((t : ℕ) → t < m → f t ≡ g t) → rows f i k ≡ rows g i k
+  same-rows f g m i zero e alike = refl
+  same-rows f g m i (suc k) e alike = ap₂ (λ (x : E) (xs : List E). x ∷ xs) (alike i (omega arith)) (same-rows f g m (suc i) k (omega arith) alike)
+
+  of-family : (vs : List Leaf) (j : ℕ) → ((i : ℕ) → i < length vs → Stands S (at vs i)) → family (S .children) vs j ≡ true
+      → words.family S (rows (λ t. elementOf S (at vs (j + t))) 0 (S .children)) ≡ true
+  of-family vs j stands h =
+      let n = S .children in
+      let a = and-eq-true-iff (ltb 0 (at vs j .level)) (leb (j + n) (length vs) && every n (λ t. same (at vs (j + t)) (child n (parent n (at vs j)) t))) .0 h in
+      let b = and-eq-true-iff (leb (j + n) (length vs)) (every n (λ t. same (at vs (j + t)) (child n (parent n (at vs j)) t))) .0 (a .1) in
+      let deep = ltb-true 0 (at vs j .level) (a .0) in
+      let here : j < length vs = omega (arith, leb-true (j + S .children) (length vs) (b .0), W .several) in
+      ap (words.family S) (same-rows (λ t. elementOf S (at vs (j + t))) (S .child (elementOf S (parent n (at vs j)))) n 0 n (omega arith)
+      (λ t below. ap (elementOf S) (same-is (at vs (j + t)) (child n (parent n (at vs j)) t) (every-all n (λ t. same (at vs (j + t)) (child n (parent n (at vs j)) t)) (b .1) t below))
+      ∙ of-child (parent n (at vs j)) t below))
+      ∙ families S W .of-children (elementOf S (parent n (at vs j))) (up-sound (at vs j) (stands j here) deep) (up-above (at vs j) (stands j here) deep)
+
+  pub tied : Tied S
+  tied = record { children = of-child; parents = of-parent; families = of-family }
