@@ -4,11 +4,13 @@
  * coordinates are its anchor. Its kind is its type: a triangle of type 0 has the corners (x, y), (x+h, y), (x+h, y+h),
  * one of type 1 has (x, y), (x, y+h), (x+h, y+h). A prism stands on its triangle from z to z+h. A line has no type.
  *
- * Every call takes any values at all. A column's pointer must not be NULL, also where its length is 0. A const column is
- * only read; any other is written at its front by an accepted call, and a refused call leaves it as it was. An answer has
- * refusal 0 and the value, or a refusal and a value of zeros. A refusal is place * 256 + number. The place is 0, except
- * that compare, family and the list calls give the index of the element or leaf at fault. Each call below names its
- * refusals in the order of the tests; the first that applies is given:
+ * Every call takes any values at all. A column's pointer must not be NULL, also where its length is 0; the columns of one
+ * list have one length. A const column is only read; any other is written at its front by an accepted call, and a refused
+ * call leaves it as it was. A column that is written must overlap no other column of the call. An answer has refusal 0 and
+ * the value, or a refusal and a value of zeros. A refusal is place * 256 + number. The place is 0, except that compare and
+ * family give the index of the element at fault, 1, 5, 7, 12, 13 and 16 of a list call that of the leaf, 12 of a list that
+ * ends early its length, and 14 the entries needed. Each call below names its refusals in the order of the tests; the first
+ * that applies is given:
  *
  *    1  level above 21
  *    2  anchor 2^21 or more, or no multiple of h
@@ -233,20 +235,20 @@ gw_number_result gw_prism_family(const uint8_t *level, size_t level_length, cons
  *  ended, the last ends root k-1. Returns 0, or the first refusal: 17 roots outside 1 to 4,096; 11 columns unequal, empty
  *  or over 1,048,576; then at each leaf (place = leaf) 1 level, 5 position, 12 it does not start there; 12 at the length
  *  of a list that ends early. */
-uint64_t gw_list_check(uint16_t k, const uint16_t *root, size_t roots, const uint8_t *level, size_t levels,
-                       const uint64_t *position, size_t positions);
+uint64_t gw_list_check(uint16_t k, const uint16_t *root, size_t root_length, const uint8_t *level, size_t level_length,
+                       const uint64_t *position, size_t position_length);
 
 /** A uniform start: writes the leaves of k roots, all at one level, at the front of the columns, and nothing behind them.
  *  The value is how many. Refuses: 17 roots outside 1 to 4,096; 11 columns unequal; 1 level above 21; 15 over 1,048,576
  *  leaves; 14 no room, place = the entries needed. */
-gw_number_result gw_list_uniform(uint16_t k, uint8_t level, uint16_t *root, size_t roots, uint8_t *leaf_level,
-                                 size_t levels, uint64_t *position, size_t positions);
+gw_number_result gw_list_uniform(uint16_t k, uint8_t level, uint16_t *root, size_t root_length, uint8_t *leaf_level,
+                                 size_t leaf_level_length, uint64_t *position, size_t position_length);
 
 /** 1 if the list is balanced: any two leaves that follow one another in one root differ by at most one level; else 0.
  *  Refuses: 17 roots outside 1 to 4,096; 11 columns unequal, empty or over 1,048,576; then at each leaf (place = leaf)
  *  1 level, 5 position, 12 it does not start where the one before it ended; 12 at the length of a list that ends early. */
-gw_number_result gw_list_balanced(uint16_t k, const uint16_t *root, size_t roots, const uint8_t *level, size_t levels,
-                                  const uint64_t *position, size_t positions);
+gw_number_result gw_list_balanced(uint16_t k, const uint16_t *root, size_t root_length, const uint8_t *level, size_t level_length,
+                                  const uint64_t *position, size_t position_length);
 
 /** One pass over the marks of a list, one a leaf: 0 keep, 1 refine, 2 merge. A refined leaf gives its eight children, eight
  *  consecutive leaves that are a family and all carry 2 give their parent, any other leaf is kept. The new list stands at the
@@ -254,21 +256,21 @@ gw_number_result gw_list_balanced(uint16_t k, const uint16_t *root, size_t roots
  *  empty or over 1,048,576, marks of another length, new columns unequal; then at each leaf (place = leaf) 1 level,
  *  5 position, 12 it does not start where the one before it ended; 12 at the length of a list that ends early; then at any
  *  leaf 13 its mark is above 2; then at any leaf 7 it is refined at level 21; 15 the new list has over 1,048,576 leaves;
- *  14 the new columns are too short (place = entries needed). The new columns must not overlap the old. */
-gw_number_result gw_list_adapt(uint16_t k, const uint16_t *root, size_t roots, const uint8_t *level, size_t levels,
-                               const uint64_t *position, size_t positions, const uint8_t *mark, size_t marks,
-                               uint16_t *new_root, size_t new_roots, uint8_t *new_level, size_t new_levels,
-                               uint64_t *new_position, size_t new_positions);
+ *  14 the new columns are too short (place = entries needed). */
+gw_number_result gw_list_adapt(uint16_t k, const uint16_t *root, size_t root_length, const uint8_t *level, size_t level_length,
+                               const uint64_t *position, size_t position_length, const uint8_t *mark, size_t mark_length,
+                               uint16_t *new_root, size_t new_root_length, uint8_t *new_level, size_t new_level_length,
+                               uint64_t *new_position, size_t new_position_length);
 
 /** The p + 1 boundaries of p shares of a weighted list, at the front of the column: share s runs from leaf boundary[s] up to
- *  boundary[s + 1]. Boundary s is the largest number of leaves whose weights, times p, are within s times the whole weight.
- *  Returns the refusal alone: 17 roots or shares outside 1 to 4,096; 11 columns unequal, empty or over 1,048,576, weights of
+ *  boundary[s + 1]. Boundary s is the largest j such that the weights of the first j leaves, times p, are
+ *  within s times the whole weight. Returns the refusal alone: 17 roots or shares outside 1 to 4,096; 11 columns unequal, empty or over 1,048,576, weights of
  *  another length; then at each leaf (place = leaf) 1 level, 5 position, 12 it does not start where the one before it ended;
  *  12 at the length of a list that ends early; then at any leaf 16 its weight is 0; 14 the column is too short
  *  (place = p + 1). */
-uint64_t gw_list_shares(uint16_t k, uint16_t p, const uint16_t *root, size_t roots, const uint8_t *level, size_t levels,
-                        const uint64_t *position, size_t positions, const uint16_t *weight, size_t weights,
-                        uint32_t *boundary, size_t boundaries);
+uint64_t gw_list_shares(uint16_t k, uint16_t p, const uint16_t *root, size_t root_length, const uint8_t *level, size_t level_length,
+                        const uint64_t *position, size_t position_length, const uint16_t *weight, size_t weight_length,
+                        uint32_t *boundary, size_t boundary_length);
 
 #ifdef __cplusplus
 }

@@ -18,7 +18,7 @@ use Rattle.leaves.proofs.Listed.{listed-accepted}
 use Rattle.leaves.proofs.UniformValid.{uniform-valid}
 use Rattle.leaves.specs.Leaves as leaves
 use Rattle.adaption.specs.Calls.{markFault, depthFault, numbers, marked, adaption}
-use Rattle.adaption.specs.Laws.{OnePass, Refinable, Started, Step, Reached, Promised}
+use Rattle.adaption.specs.Laws.{OnePass, Refinable, Begun, Step, Reached, Promised}
 use Rattle.adaption.proofs.Family.{merging-is, is-merging}
 use Rattle.adaption.proofs.Gives.{gives-refined, gives-merged, gives-younger, gives-kept}
 use Rattle.adaption.proofs.Marked.{refined-above}
@@ -62,7 +62,7 @@ module _ (n L : ℕ) (positive : 0 < n) where
         by (no beyond) = absurd (let none = List·getD-eq-default ms 0 {n = i} (omega arith) in omega arith)
 
   -- ---- reached
-  start-valid : (K : ℕ) (ws : List Leaf) → Started n L K ws → Valid n L K ws
+  start-valid : (K : ℕ) (ws : List Leaf) → Begun n L K ws → Valid n L K ws
   start-valid K ws s =
       let range = accepted-of (outOfRange K) 17 0 _ (s .size) (s .accepts) in
       let columns = accepted-of (not (s .equal)) 11 0 _ (s .size) (range .1) in

@@ -5,7 +5,9 @@
 --   childrenOf v     "A refined leaf gives its eight children."
 --   family vs j      the n leaves from number j on "are a family": the children of one leaf, in order
 --   merging vs ms j  "Eight consecutive leaves that are a family and all carry 2", from number j on
---   eldest vs i      the number where the family of leaf i begins, if it is one: before leaf i stand its elder siblings
+--   every, joined    of tests and of lists; same u v: the leaves are equal
+--   eldest vs i      the number where the family of leaf i begins, if it is one: before leaf i stand its elder siblings (where there are not
+--                    so many leaves the difference is 0, and no family begins there to which leaf i belongs)
 --   gives vs ms i    what leaf i gives: refined, its children; the first of a merging family, "their parent", the others nothing;
 --                    "Any other leaf marked 2 is kept", as is one marked 0
 --   adapted vs ms    what the leaves give, in order. "One pass; new leaves aren't looked at again."

@@ -5,7 +5,9 @@
 --   15 result over 1,048,576 leaves
 --
 --   markFault ms i, depthFault L ls ms i   13 and 7 for leaf i, of the level column ls
+--                    (a level above L was refused before, so `leb` is "of the highest level")
 --   numbers N        the numbers of N leaves
+--   marked, sized    the tests of the marks, and of the result's length
 --   adaption         the call: how many leaves the result has. equal: whether the lent columns are equally long, room: how long
 --   Adapted          the contract of the call: its answer, and the result at the front of the lent columns, or what they held
 --

@@ -1,10 +1,10 @@
 -- What is promised of adaption, as statements, over the number of children and the highest level. Definitions only.
 --
---   Merging vs ms j   "Eight consecutive leaves that are a family and all carry 2", from number j on
---   OnePass vs ms     which leaves are refined, which merge, which are kept; the result is what they give, in order
+--   Merging vs ms j   "Eight consecutive leaves that are a family and all carry 2", as a statement; `merging` is the test
+--   OnePass vs ms     which leaves are refined, which merge, which are kept, and what each gives; `adapted` is what they give, in order
 --   Refinable vs ms   no leaf of the highest level is marked 1
 --   Marked            the marks of N leaves are m for the k leaves from number i on, and 0 for the others
---   Started, Step     an accepted uniform start, an accepted adaption, and the list that it gives
+--   Begun, Step     an accepted uniform start, an accepted adaption, and the list that it gives
 --   Reached K s ws    the list ws is reached from a uniform start by s accepted adaptions, one after the other
 --   Promised          all of it
 --   elementOf S v     the element of a shape that a leaf is
@@ -51,7 +51,7 @@ module _ (n : ℕ) where
     abbrev pub Refinable : List Leaf → List ℕ → Type 0
     Refinable vs ms = (i : ℕ) → i < length vs → mark ms i ≡ 1 → at vs i .level < L
 
-    pub record Started (K : ℕ) (ws : List Leaf) : Type 0 where
+    pub record Begun (K : ℕ) (ws : List Leaf) : Type 0 where
       pub level : ℕ
       pub equal : Bool
       pub room : ℕ
@@ -68,7 +68,7 @@ module _ (n : ℕ) where
       pub result : ws ≡ adapted n vs marks
 
     unfoldable pub Reached : ℕ → ℕ → List Leaf → Type 0
-    Reached K zero ws = Started K ws
+    Reached K zero ws = Begun K ws
     Reached K (suc s) ws = (vs : List Leaf) × (Reached K s vs × Step K vs ws)
 
     pub record Promised : Type 0 where

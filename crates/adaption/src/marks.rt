@@ -35,14 +35,14 @@ fn worst(highest: u8, levels: &[u8], marks: &[u8]) -> u8
     let mut most = 0;
     let mut i = 0;
     while i < marks.len() {
-        most = larger(most, either(highest, levels[i], marks[i]));
+        most = worse(most, either(highest, levels[i], marks[i]));
         i += 1;
     }
     most
 }
 
-// The larger of two numbers.
-fn larger(a: u8, b: u8) -> u8
+// The worse of two faults: 0 only where both are.
+fn worse(a: u8, b: u8) -> u8
     ensures { λ r. ⌜ (r ≡ 0 → (a ≡ 0) × (b ≡ 0)) ⌝ }
 {
     if a < b {

@@ -1,12 +1,12 @@
--- The leaves in turn, as the loop meets them: what settles two leaves, and what the answer is at the first, at one more, at one too far
--- from the leaf before it, and at the end. Assumes nothing.
+-- The leaves in turn, as the loop meets them: what settles two leaves, and what the answer is at the first, at one more and at the end.
+-- Assumes nothing.
 use mathlib.Core.Path.{_≡_, ap, _∙_, sym}
-use mathlib.Core.Bool.{Bool, true, false, not, _&&_, _||_, or-true}
+use mathlib.Core.Bool.{Bool, true, not, _&&_, _||_, or-true, and-assoc}
 use Prim.Native.Nat.{ℕ, _+_, _-_, _≤_, _<_}
 use native.Mathlib.Nat.{sub-zero}
 use native.Mathlib.Omega.{arith}
 use lib.Dec.{leb, eqb}
-use borrow.Author.Tests.{eq-eqb, ne-eqb}
+use borrow.Author.Tests.{ne-eqb}
 use Rattle.paper.specs.Outcome.{rows}
 use Rattle.paper.proofs.Scan.{rows-next, rows-done}
 use Rattle.leaves.specs.Leaves.{Leaf}
@@ -23,9 +23,6 @@ module _ (u v : Leaf) where
   pub near-roots : (u .root ≡ v .root → ⊥) → near u v ≡ true
   near-roots other = simp (ne-eqb (u .root) (v .root) other)
 
-  near-neither : u .root ≡ v .root → nearLevels u v ≡ false → near u v ≡ false
-  near-neither same far = ap (λ (t : Bool). not t || nearLevels u v) (eq-eqb (u .root) (v .root) same) ∙ far
-
 -- ---- the answer of the leaves from i on, of m, after leaf i - 1
 abbrev pub balancedFrom : (ℕ → Leaf) → ℕ → ℕ → Bool
 balancedFrom entry m i = balancedAfter (entry (i - 1)) (rows entry i (m - i))
@@ -40,23 +37,19 @@ module _ (entry : ℕ → Leaf) (m : ℕ) where
     unfolding balancedAfter
     pairs-done past = ap (balancedAfter (entry (i - 1))) (rows-done entry m i past)
 
-    module _ (inside : i < m) where
-      pairs-next : near (entry (i - 1)) (entry i) ≡ true → balancedFrom entry m i ≡ balancedFrom entry m (i + 1)
-      unfolding balancedAfter
-      pairs-next close =
-          let same : i ≡ i + 1 - 1 = omega arith in
-          ap (balancedAfter (entry (i - 1))) (rows-next entry m i inside)
-          ∙ ap (λ (t : Bool). t && balancedAfter (entry i) (rows entry (i + 1) (m - (i + 1)))) close
-          ∙ ap (λ (j : ℕ). balancedAfter (entry j) (rows entry (i + 1) (m - (i + 1)))) same
+    pairs-next : i < m → balancedFrom entry m i ≡ (near (entry (i - 1)) (entry i) && balancedFrom entry m (i + 1))
+    unfolding balancedAfter
+    pairs-next inside =
+        let same : i ≡ i + 1 - 1 = omega arith in
+        ap (balancedAfter (entry (i - 1))) (rows-next entry m i inside)
+        ∙ ap (λ (j : ℕ). near (entry (i - 1)) (entry i) && balancedAfter (entry j) (rows entry (i + 1) (m - (i + 1)))) same
 
-      pub pairs-levels : nearLevels (entry (i - 1)) (entry i) ≡ true → balancedFrom entry m i ≡ balancedFrom entry m (i + 1)
-      pairs-levels close = pairs-next (near-levels (entry (i - 1)) (entry i) close)
-
-      pub pairs-roots : (entry (i - 1) .root ≡ entry i .root → ⊥) → balancedFrom entry m i ≡ balancedFrom entry m (i + 1)
-      pairs-roots other = pairs-next (near-roots (entry (i - 1)) (entry i) other)
-
-      pub pairs-far : entry (i - 1) .root ≡ entry i .root → nearLevels (entry (i - 1)) (entry i) ≡ false → balancedFrom entry m i ≡ false
-      unfolding balancedAfter
-      pairs-far same far =
-          ap (balancedAfter (entry (i - 1))) (rows-next entry m i inside)
-          ∙ ap (λ (t : Bool). t && balancedAfter (entry i) (rows entry (i + 1) (m - (i + 1)))) (near-neither (entry (i - 1)) (entry i) same far)
+    -- one more, after those before it, of which all are near
+    pub pairs-more : i < m → (all close : Bool) → close ≡ nearLevels (entry (i - 1)) (entry i)
+        → (all && balancedFrom entry m i) ≡ ((all && (not (eqb (entry (i - 1) .root) (entry i .root)) || close)) && balancedFrom entry m (i + 1))
+    pairs-more inside all close levels =
+        let apart = not (eqb (entry (i - 1) .root) (entry i .root)) in
+        let rest = balancedFrom entry m (i + 1) in
+        ap (λ (t : Bool). all && t) (pairs-next inside)
+        ∙ sym (and-assoc all (near (entry (i - 1)) (entry i)) rest)
+        ∙ ap (λ (t : Bool). (all && (apart || t)) && rest) (sym levels)

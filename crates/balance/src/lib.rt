@@ -21,29 +21,27 @@ pub fn balanced(k: u16, roots: &[u16], levels: &[u8], positions: &[u64]) -> Trut
     }
 }
 
-// Each leaf after the first beside the one before it. Positions do not matter, and roots only where the levels are apart.
+// Each leaf after the first beside the one before it; positions do not matter. It reads all of them: without a way out in between they
+// go many at a time.
 fn all_near(roots: &[u16], levels: &[u8]) -> bool
     requires { ⌜ (0 < length (now roots)) × (length (now roots) ≡ length (now levels)) ⌝ }
     ensures { λ r. ⌜ ((positions : List ℕ) → r ≡ balanced (leaves (now (roots .entry)) (now (levels .entry)) positions)) ⌝ }
 {
+    let mut all = true;
     let mut i = 1;
     while i < roots.len() {
-        if !near_levels(levels[i - 1], levels[i]) {
-            if roots[i - 1] == roots[i] {
-                return false;
-            }
-        }
+        let near = near_levels(levels[i - 1], levels[i]);
+        all = all & ((roots[i - 1] != roots[i]) | near);
         i += 1;
     }
-    true
+    all
 }
 
 // Whether two levels differ by at most one.
 fn near_levels(level: u8, level2: u8) -> bool
     ensures { λ r. ⌜ r ≡ (leb level (level2 + 1) && leb level2 (level + 1)) ⌝ }
 {
-    if level2 as u16 + 1 < level as u16 {
-        return false;
-    }
-    level2 as u16 <= level as u16 + 1
+    let not_far_below = level as u16 <= level2 as u16 + 1;
+    let not_far_above = level2 as u16 <= level as u16 + 1;
+    not_far_below & not_far_above
 }

@@ -3,7 +3,7 @@
 --   word o         0 when accepted, else place·256 + number; a place is taken modulo 2^56, so that the word always holds it (no lent
 --                  column has as many entries)
 --   valueOr z o    the value, z on a refusal
---   checkResult    of a call with no value: the word alone
+--   passResult    of a call with no value: the word alone
 --   lineResult, triangleResult, prismResult, numberResult, truthResult, orderResult
 --                  what the call with the outcome o returns: on a refusal every field of the value is 0
 --   UniformResult, AdaptResult, SharesResult
@@ -69,8 +69,8 @@ signOf greater = pos 1
 unfoldable pub orderResult : Outcome Order → OrderResult
 orderResult o = record { refusal = word o; value = signOf (valueOr same o) }
 
-unfoldable pub checkResult : Outcome (Unit {0}) → ℕ
-checkResult o = word o
+unfoldable pub passResult : Outcome (Unit {0}) → ℕ
+passResult o = word o
 
 pub record UniformResult (k level : ℕ) (r : NumberResult) (roots levels positions roots′ levels′ positions′ : List ℕ) : Type 0 where
   pub result : r ≡ numberResult (uniform 8 21 k level (equalColumns roots levels positions) (length roots))
@@ -83,5 +83,5 @@ pub record AdaptResult (k : ℕ) (r : NumberResult) (roots levels positions mark
       (adapted 8 (leaves.leaves roots levels positions) marks) newRoots newLevels newPositions newRoots′ newLevels′ newPositions′
 
 pub record SharesResult (k p r : ℕ) (roots levels positions weights column column′ : List ℕ) : Type 0 where
-  pub result : r ≡ checkResult (shares 8 21 k p roots levels positions weights (length column))
+  pub result : r ≡ passResult (shares 8 21 k p roots levels positions weights (length column))
   pub written : column′ ≡ lent (shares 8 21 k p roots levels positions weights (length column)) (boundaries p weights) column

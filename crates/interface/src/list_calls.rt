@@ -6,11 +6,11 @@ ghost use mathlib.Core.Bool.{true};
 ghost use Rattle.paper.specs.Outcome.{passed};
 ghost use Rattle.leaves.specs.Calls.{listed};
 ghost use Rattle.balance.specs.Balance.{isBalanced};
-ghost use Rattle.interface.specs.Results.{checkResult, truthResult, UniformResult, AdaptResult, SharesResult};
+ghost use Rattle.interface.specs.Results.{passResult, truthResult, UniformResult, AdaptResult, SharesResult};
 
 #[no_mangle]
 pub extern "C" fn gw_list_check(k: u16, roots: &[u16], levels: &[u8], positions: &[u64]) -> u64
-    ensures { λ r. ⌜ r ≡ checkResult (listed 8 21 k true true (now (roots .entry)) (now (levels .entry)) (now (positions .entry)) passed) ⌝ }
+    ensures { λ r. ⌜ r ≡ passResult (listed 8 21 k true true (now (roots .entry)) (now (levels .entry)) (now (positions .entry)) passed) ⌝ }
 {
     results::of_pass(leaves::check_list(k, roots, levels, positions))
 }

@@ -20,7 +20,7 @@ ghost use Rattle.paper.specs.Readings.{valueOf, truthOf, orderOf, passOf};
 ghost use Rattle.line.specs.Elements as lines;
 ghost use Rattle.triangle.specs.Elements as triangles;
 ghost use Rattle.prism.specs.Elements as prisms;
-ghost use Rattle.interface.specs.Results.{lineResult, triangleResult, prismResult, numberResult, truthResult, orderResult, checkResult};
+ghost use Rattle.interface.specs.Results.{lineResult, triangleResult, prismResult, numberResult, truthResult, orderResult, passResult};
 
 // The word of a refusal.
 fn word(number: u8, place: u64) -> u64
@@ -147,7 +147,7 @@ pub(crate) fn of_order(a: OrderAnswer) -> OrderResult
 }
 
 pub(crate) fn of_pass(a: PassAnswer) -> u64
-    ensures { λ r. ⌜ r ≡ checkResult (passOf a) ⌝ }
+    ensures { λ r. ⌜ r ≡ passResult (passOf a) ⌝ }
 {
     match a {
         PassAnswer::Passed => 0,

@@ -7,6 +7,8 @@
 --
 --   limit            1,048,576
 --   outOfRange k     "outside 1 to 4,096"
+--   equalColumns     whether three columns are equally long
+--   starts K c v     the leaf v starts where the list has come to c, in one of the K roots
 --   leafFault K c v  the first of 1, 5, 12 that the leaf v has where the list has come to c
 --   walked K i c vs o   the leaves vs from number i on, where the list has come to c; then o
 --   listed           a list call: the tests of its numbers, its columns and its leaves; then o. inRange: the call's other number (shares)

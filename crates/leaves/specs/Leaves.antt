@@ -10,7 +10,8 @@
 --   startOf, endOf   where a leaf starts, and where it ends: "if that is the end of a root, at the start of the next root"
 --   Covers c vs K    the leaves start at c, "each later leaf starts where the one before it ended", "and the last ends root K-1"
 --   Valid K vs       "valid for K roots when the first leaf starts root 0 .."
---   uniform K l      "Uniform start: K roots, all at one level"
+--   uniform K l      "Uniform start: K roots, all at one level": leaf i is of root i / n^l, at position i % n^l
+--                    (that v lies in one of the K roots follows from where the last ends; it is said at each leaf as 12 is)
 --
 -- Assumes nothing.
 use mathlib.Core.Path.{_≡_}

@@ -8,7 +8,7 @@
 --   scan f i es o          "checked in turn, place = index": refused at the first of es whose fault is not 0, else o
 --   passed                 accepted, with no value
 --   checks f es            the checks alone, with nothing after them
---   rows e i k             the k entries e i, e (i + 1), .. of lent columns
+--   rows e i k             the k entries e i, e (i + 1), ..
 --   Order                  less, same or greater
 --
 -- Assumes nothing.

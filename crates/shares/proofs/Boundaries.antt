@@ -139,7 +139,7 @@ module _ (P : ℕ) (ws : List ℕ) where
     pub fair : Fair P ws
     fair =
         record {
-          largest = boundary-largest;
+          largest = λ s. record { within = boundary-largest s .within; under = boundary-under s; largest = λ i inside under. boundary-largest s .none-above i inside (le-leb _ _ under) };
           from-none = boundary-none;
           to-all = boundary-all;
           rising = boundary-rising;

@@ -10,14 +10,14 @@ use Rattle.paper.specs.Outcome.{rows}
 use Rattle.paper.specs.Memory.{written}
 use Rattle.paper.proofs.Front.{front-length, front-more}
 use Rattle.shares.specs.Shares.{total, boundary, boundaries}
-use Rattle.shares.specs.Turns.{Reached, Stopped}
+use Rattle.shares.specs.Turns.{Within, Stopped}
 use Rattle.shares.proofs.Turns.{stopped-boundary, reached-on}
 
 -- the first s boundaries stand in the column, and the first count leaves are within the limit of share s; W is the whole weight
 pub record Divided (P W : ℕ) (ws column : List ℕ) (s : ℕ) (column′ : List ℕ) (count sum : ℕ) : Type 0 where
   pub shares : s ≤ P + 1
   pub boundaries : column′ ≡ written (rows (boundary P ws) 0 s) column
-  pub reached : Reached ws (s * W / P) count sum
+  pub reached : Within ws (s * W / P) count sum
 
 module _ (P W : ℕ) (ws column : List ℕ) where
   pub divided-none : Divided P W ws column 0 column 0 0

@@ -3,13 +3,13 @@
 use mathlib.Core.Path.{_≡_, refl, ap, _∙_, sym}
 use mathlib.Core.Bool.{Bool, true, false, cond}
 use mathlib.Core.List.{List, [], _∷_, _++_}
-use Prim.Native.Nat.{ℕ, zero, suc, _+_, _*_, _≤_, _<_}
+use Prim.Native.Nat.{ℕ, zero, suc, _+_, _-_, _*_, _≤_, _<_}
 use native.Mathlib.Numerals.{add-one}
 use native.Mathlib.Nat.{zero-mul, suc-mul}
 use native.Mathlib.Omega.{arith}
 use lib.Dec.{ltb}
 use lib.ListN.{length, getD, take, drop, replicate, take-append-drop}
-use lib.Seq.{take-suc, take-take, take-length, slice}
+use lib.Seq.{take-suc, take-add, take-take, take-length, slice}
 use borrow.Author.Tests.{ltb-true, ltb-false}
 use Rattle.shares.specs.Shares.{total, heaviest}
 use Rattle.shares.specs.Laws.{Weighty}
@@ -35,6 +35,14 @@ module _ (ws : List ℕ) where
       ap (λ (xs : List ℕ). total xs + total (slice f t ws)) (sym (take-take f t ws rising))
       ∙ sym (total-append (take f (take t ws)) (drop f (take t ws)))
       ∙ ap total (take-append-drop f (take t ws))
+
+  -- a part, from f up to t, as it is lent
+  pub total-part : (f t : ℕ) → f ≤ t → total (take t ws) ≡ total (take f ws) + total (take (t - f) (drop f ws))
+  total-part f t rising =
+      let whole : t ≡ f + (t - f) = omega arith in
+      ap (λ (n : ℕ). total (take n ws)) whole
+      ∙ ap total (take-add f (t - f) ws)
+      ∙ total-append (take f ws) (take (t - f) (drop f ws))
 
   pub total-rises : (i j : ℕ) → i ≤ j → total (take i ws) ≤ total (take j ws)
   total-rises i j rising = omega (arith, total-slice i j rising)

@@ -3,7 +3,7 @@
 use mathlib.Core.Path.{_≡_, ap, _∙_, sym}
 use mathlib.Core.Bool.{true}
 use mathlib.Core.List.{List, _∷_}
-use Prim.Native.Nat.{ℕ, _+_, _*_, _/_, _≤_, _<_}
+use Prim.Native.Nat.{ℕ, _+_, _-_, _*_, _/_, _≤_, _<_}
 use native.Mathlib.Numerals.{add-one}
 use native.Mathlib.Nat.{mul-comm, le-div-iff-mul-le}
 use native.Mathlib.Omega.{arith}
@@ -16,9 +16,9 @@ use Rattle.paper.proofs.Scan.{fault-none}
 use Rattle.leaves.proofs.Span.{more-mul}
 use Rattle.shares.specs.Shares.{total, boundary}
 use Rattle.shares.specs.Calls.{weightFault}
-use Rattle.shares.specs.Turns.{Reached, Stopped}
+use Rattle.shares.specs.Turns.{Within, Stopped}
 use Rattle.shares.proofs.Largest.{largest-is}
-use Rattle.shares.proofs.Sums.{total-next, total-rises}
+use Rattle.shares.proofs.Sums.{total-next, total-part, total-rises}
 
 -- ---- the first weight 0
 module _ {A : Type 0} (rest : Outcome A) (ws : List ℕ) (i : ℕ) (inside : i < length ws) where
@@ -38,10 +38,16 @@ module _ {A : Type 0} (rest : Outcome A) (ws : List ℕ) (i : ℕ) (inside : i <
 
 -- ---- as far as the limit
 module _ {ws : List ℕ} {limit count sum : ℕ} where
-  pub reached-next : Reached ws limit count sum → count < length ws → sum + getD ws count 0 ≤ limit
-      → Reached ws limit (count + 1) (sum + getD ws count 0)
+  pub reached-next : Within ws limit count sum → count < length ws → sum + getD ws count 0 ≤ limit
+      → Within ws limit (count + 1) (sum + getD ws count 0)
   reached-next r inside under =
       record { within = omega arith; summed = omega (arith, total-next ws count inside, r .summed); under = under }
+
+  -- up to the end of a part that weighs w
+  pub reached-part : Within ws limit count sum → (end w : ℕ) → count ≤ end → end ≤ length ws → w ≡ total (take (end - count) (drop count ws))
+      → sum + w ≤ limit → Within ws limit end (sum + w)
+  reached-part r end w rising inside weighs under =
+      record { within = inside; summed = omega (arith, total-part ws count end rising, r .summed); under = under }
 
   -- any count whose sum is within the limit is within the count
   pub stopped-largest : Stopped ws limit count sum → (j : ℕ) → j ≤ length ws → total (take j ws) ≤ limit → j ≤ count
@@ -68,7 +74,7 @@ module _ (P : ℕ) {ws : List ℕ} (some-share : 0 < P) (s : ℕ) {count sum : �
           (le-div-iff-mul-le some-share .1 (rw mul-comm (leb-true _ _ passes)))
 
   -- what a share reaches, the next share has reached
-  pub reached-on : (W : ℕ) → Reached ws (s * W / P) count sum → Reached ws ((s + 1) * W / P) count sum
+  pub reached-on : (W : ℕ) → Within ws (s * W / P) count sum → Within ws ((s + 1) * W / P) count sum
   reached-on W r =
       let part = le-div-iff-mul-le some-share .0 (r .under) in
       record { within = r .within; summed = r .summed; under = le-div-iff-mul-le some-share .1 (omega (arith, more-mul s W)) }

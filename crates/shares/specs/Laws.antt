@@ -1,20 +1,21 @@
 -- What is promised of shares, as statements. Definitions only.
 --
 --   Largest m test j   j is the largest number up to m that passes the test
+--   Boundary P ws s j  j is "the largest leaf count j whose first j weights sum to S with P·S <= s·W"
 --   InShare P ws s j   leaf j lies in share s
 --   OneShare P ws j    leaf j lies in exactly one of the P shares
---   Fair               what the boundaries are and how they divide the leaves: "no machine got a piece that another also had, or far more
---                      than its part"; |P·weight - W| < P·heaviest, strictly, as two bounds
---   Equal              "With equal weights this is the thesis's formula 27"
+--   Fair               what the boundaries are, and how they divide the leaves: from none to all, each leaf in one share, and
+--                      |P·weight - W| < P·heaviest, strictly, as two bounds
+--   Weighty ws         no weight is 0
+--   Promised           all of it; "With equal weights this is the thesis's formula 27"; and how many boundaries there are
 --
 -- Assumes nothing.
 use mathlib.Core.Path.{_≡_}
 use mathlib.Core.Bool.{Bool, true}
 use mathlib.Core.List.{List}
 use Prim.Native.Nat.{ℕ, _+_, _*_, _/_, _≤_, _<_}
-use lib.Dec.{leb}
 use lib.ListN.{length, getD, take, replicate}
-use Rattle.shares.specs.Shares.{total, boundary, weight, heaviest}
+use Rattle.shares.specs.Shares.{total, boundary, boundaries, weight, heaviest}
 
 pub record Largest (m : ℕ) (test : ℕ → Bool) (j : ℕ) : Type 0 where
   pub within : j ≤ m
@@ -22,6 +23,11 @@ pub record Largest (m : ℕ) (test : ℕ → Bool) (j : ℕ) : Type 0 where
   pub none-above : (i : ℕ) → i ≤ m → test i ≡ true → i ≤ j
 
 module _ (P : ℕ) (ws : List ℕ) where
+  pub record Boundary (s j : ℕ) : Type 0 where
+    pub within : j ≤ length ws
+    pub under : P * total (take j ws) ≤ s * total ws
+    pub largest : (i : ℕ) → i ≤ length ws → P * total (take i ws) ≤ s * total ws → i ≤ j
+
   pub record InShare (s j : ℕ) : Type 0 where
     pub from : boundary P ws s ≤ j
     pub to : j < boundary P ws (s + 1)
@@ -34,7 +40,7 @@ module _ (P : ℕ) (ws : List ℕ) where
     pub only : (s : ℕ) → s < P → InShare s j → s ≡ which
 
   pub record Fair : Type 0 where
-    pub largest : (s : ℕ) → Largest (length ws) (λ j. leb (P * total (take j ws)) (s * total ws)) (boundary P ws s)
+    pub largest : (s : ℕ) → Boundary s (boundary P ws s)
     pub from-none : boundary P ws 0 ≡ 0
     pub to-all : boundary P ws P ≡ length ws
     pub rising : (s : ℕ) → boundary P ws s ≤ boundary P ws (s + 1)
@@ -42,10 +48,10 @@ module _ (P : ℕ) (ws : List ℕ) where
     pub not-far-above : (s : ℕ) → s < P → P * weight P ws s < total ws + P * heaviest ws
     pub not-far-below : (s : ℕ) → s < P → total ws < P * weight P ws s + P * heaviest ws
 
--- no weight is 0
 abbrev pub Weighty : List ℕ → Type 0
 Weighty ws = (j : ℕ) → j < length ws → 0 < getD ws j 0
 
 pub record Promised : Type 0 where
   pub fair : (P : ℕ) (ws : List ℕ) → 0 < P → Weighty ws → 0 < length ws → Fair P ws
   pub equal : (P N w s : ℕ) → 0 < P → 0 < w → s ≤ P → boundary P (replicate N w) s ≡ s * N / P
+  pub many : (P : ℕ) (ws : List ℕ) → length (boundaries P ws) ≡ P + 1

@@ -1,26 +1,24 @@
--- `all_near` meets its contract: the leaves before i are near one another, so the answer is that of the leaves from i on, after leaf i - 1.
--- Assumes nothing.
-use mathlib.Core.Path.{_≡_, _∙_, sym}
-use mathlib.Core.Logic.{⊎-elim}
+-- `all_near` meets its contract: the answer is that of the leaves before i and of those from i on, after leaf i - 1. Assumes nothing.
+use mathlib.Core.Path.{_≡_, ap, _∙_, sym}
+use mathlib.Core.Bool.{Bool, _&&_, and-true}
 use mathlib.Core.List.{List}
 use Prim.Native.Nat.{ℕ, _-_, _≤_}
 use native.Mathlib.Omega.{arith}
 use lib.ListN.{length}
 use borrow.Author.Needs.{needs}
-use borrow.Author.Tests.{not-true, not-false}
 use Rattle.leaves.specs.Leaves.{leafAt, leaves}
 use Rattle.balance.specs.Balance.{balanced}
-use Rattle.balance.proofs.Pairs.{balancedFrom, pairs-start, pairs-levels, pairs-roots, pairs-far, pairs-done}
+use Rattle.balance.proofs.Pairs.{balancedFrom, pairs-start, pairs-more, pairs-done}
 use Rattle.balance.proofs.all_near.Statement.{statement}
 use Rattle.balance.proofs.all_near.Tie as tie
 
 abbrev Inv-loop : tie.InvT-loop
-Inv-loop roots levels i₀ i =
+Inv-loop roots levels all₀ i₀ all i =
     (1 ≤ i)
-    × ((positions : List ℕ) → balanced (leaves roots levels positions) ≡ balancedFrom (leafAt roots levels positions) (length roots) i)
+    × ((positions : List ℕ) → balanced (leaves roots levels positions) ≡ (all && balancedFrom (leafAt roots levels positions) (length roots) i))
 
 abbrev μ-loop : tie.MeasureT-loop
-μ-loop roots levels i₀ i = length roots - i
+μ-loop roots levels all₀ i₀ all i = length roots - i
 
 loop-holds : tie.Need-loop-holds Inv-loop μ-loop
 loop-holds c =
@@ -39,30 +37,20 @@ shared-slice-read-near-levels-2 c = omega arith
 near-levels-requires : tie.Need-near-levels-requires Inv-loop μ-loop
 near-levels-requires c κs = search needs
 
-sub-if2 : tie.Need-sub-if2 Inv-loop μ-loop
-sub-if2 c = omega arith
+sub-all : tie.Need-sub-all Inv-loop μ-loop
+sub-all c = omega arith
 
-mul-if2 : tie.Need-mul-if2 Inv-loop μ-loop
-mul-if2 c = omega arith
+mul-all : tie.Need-mul-all Inv-loop μ-loop
+mul-all c = omega arith
 
-shared-slice-read-if2 : tie.Need-shared-slice-read-if2 Inv-loop μ-loop
-shared-slice-read-if2 c = omega arith
+shared-slice-read-all : tie.Need-shared-slice-read-all Inv-loop μ-loop
+shared-slice-read-all c = omega arith
 
-mul-if2-2 : tie.Need-mul-if2-2 Inv-loop μ-loop
-mul-if2-2 c = omega arith
+mul-all-2 : tie.Need-mul-all-2 Inv-loop μ-loop
+mul-all-2 c = omega arith
 
-shared-slice-read-if2-2 : tie.Need-shared-slice-read-if2-2 Inv-loop μ-loop
-shared-slice-read-if2-2 c = omega arith
-
-returns : tie.Need-returns Inv-loop μ-loop
-returns c =
-    let a = c .before .before .before .before .before .before .before .before .before .before .before .args in
-    let at = c .before .before .before .before .before .before .before .before .loop in
-    let inside = c .before .before .before .before .before .before .before .loop-test .taken in
-    let asked = c .before .before .before .before .near-levels in
-    let far = sym (asked .ensures) ∙ not-true (asked .result) (c .before .before .before .if1 .taken) in
-    λ positions. sym (at .inv .1 positions
-    ∙ pairs-far (leafAt (a .roots .now) (a .levels .now) positions) (length (a .roots .now)) (at .i) inside (c .if2 .taken) far)
+shared-slice-read-all-2 : tie.Need-shared-slice-read-all-2 Inv-loop μ-loop
+shared-slice-read-all-2 c = omega arith
 
 add-i : tie.Need-add-i Inv-loop μ-loop
 add-i c = omega arith
@@ -72,25 +60,22 @@ loop-less c = omega arith
 
 loop-again : tie.Need-loop-again Inv-loop μ-loop
 loop-again c =
-    let a = c .before .before .before .before .before .before .before .before .args in
-    let at = c .before .before .before .before .before .loop in
-    let inside = c .before .before .before .before .loop-test .taken in
-    let asked = c .before .near-levels in (
+    let a = c .before .before .before .before .before .before .before .before .before .args in
+    let at = c .before .before .before .before .before .before .loop in
+    let asked = (c .before .before .near-levels) in (
       omega arith,
-      λ positions. let v = leafAt (a .roots .now) (a .levels .now) positions in
-          at .inv .1 positions
-          ∙ ⊎-elim
-          (λ w. pairs-roots v (length (a .roots .now)) (at .i) inside (w .3 .left))
-          (λ w. pairs-levels v (length (a .roots .now)) (at .i) inside (sym (asked .ensures) ∙ not-false (asked .result) (w .left)))
-          (c .if1 .came),
+      λ positions. at .inv .1 positions
+          ∙ pairs-more (leafAt (a .roots .now) (a .levels .now) positions) (length (a .roots .now)) (at .i) (c .before .before .before .before .before .loop-test .taken)
+          (at .all) (asked .result) (asked .ensures),
     )
 
-returns-2 : tie.Need-returns-2 Inv-loop μ-loop
-returns-2 c =
+returns : tie.Need-returns Inv-loop μ-loop
+returns c =
     let a = c .before .before .before .before .args in
     let at = c .before .loop in
     λ positions. sym (at .inv .1 positions
-    ∙ pairs-done (leafAt (a .roots .now) (a .levels .now) positions) (length (a .roots .now)) (at .i) (c .loop-test .left))
+    ∙ ap (λ (t : Bool). at .all && t) (pairs-done (leafAt (a .roots .now) (a .levels .now) positions) (length (a .roots .now)) (at .i) (c .loop-test .left))
+    ∙ and-true (at .all))
 
 pub all-near-spec : {M : Type 1} → statement M
 all-near-spec =
@@ -103,13 +88,12 @@ all-near-spec =
     shared-slice-read-near-levels
     shared-slice-read-near-levels-2
     near-levels-requires
-    sub-if2
-    mul-if2
-    shared-slice-read-if2
-    mul-if2-2
-    shared-slice-read-if2-2
-    returns
+    sub-all
+    mul-all
+    shared-slice-read-all
+    mul-all-2
+    shared-slice-read-all-2
     add-i
     loop-less
     loop-again
-    returns-2)
+    returns)

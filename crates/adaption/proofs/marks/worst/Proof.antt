@@ -27,8 +27,8 @@ shared-slice-read-either-2 c = omega arith
 either-requires : tie.Need-either-requires Inv-loop μ-loop
 either-requires c κs = search needs
 
-larger-requires : tie.Need-larger-requires Inv-loop μ-loop
-larger-requires c κs = search needs
+worse-requires : tie.Need-worse-requires Inv-loop μ-loop
+worse-requires c κs = search needs
 
 add-i : tie.Need-add-i Inv-loop μ-loop
 add-i c = omega arith
@@ -37,7 +37,7 @@ loop-less : tie.Need-loop-less Inv-loop μ-loop
 loop-less c = omega arith
 
 loop-again : tie.Need-loop-again Inv-loop μ-loop
-loop-again c = (omega arith, faultless-more (c .before .before .before .before .before .before .before .before .args .highest) (c .before .before .before .before .before .before .before .before .args .levels .now) (c .before .before .before .before .before .before .before .before .args .marks .now) (c .before .before .before .before .before .loop .i) (c .before .before .before .before .before .loop .most) (c .before .either .result) (c .larger .result) (c .before .before .before .before .before .loop .inv .1) (c .before .either .ensures) (c .larger .ensures))
+loop-again c = (omega arith, faultless-more (c .before .before .before .before .before .before .before .before .args .highest) (c .before .before .before .before .before .before .before .before .args .levels .now) (c .before .before .before .before .before .before .before .before .args .marks .now) (c .before .before .before .before .before .loop .i) (c .before .before .before .before .before .loop .most) (c .before .either .result) (c .worse .result) (c .before .before .before .before .before .loop .inv .1) (c .before .either .ensures) (c .worse .ensures))
 
 returns : tie.Need-returns Inv-loop μ-loop
 returns c =
@@ -54,7 +54,7 @@ worst-spec =
     shared-slice-read-either
     shared-slice-read-either-2
     either-requires
-    larger-requires
+    worse-requires
     add-i
     loop-less
     loop-again

@@ -9,15 +9,15 @@ use Rattle.paper.specs.Memory.{lent}
 use Rattle.paper.specs.Readings.{passOf}
 use Rattle.shares.specs.Shares.{boundaries}
 use Rattle.shares.specs.Calls.{Shared}
-use Rattle.interface.specs.Results.{checkResult, SharesResult}
+use Rattle.interface.specs.Results.{passResult, SharesResult}
 use Rattle.interface.proofs.list_calls.gw_list_shares.Statement.{statement}
 use Rattle.interface.proofs.list_calls.gw_list_shares.Tie as tie
 
 carried : {k p r : ℕ} {rs ls ps ws column column′ : List ℕ} (a : PassAnswer)
-    → Shared k p a rs ls ps ws column column′ → r ≡ checkResult (passOf a) → SharesResult k p r rs ls ps ws column column′
+    → Shared k p a rs ls ps ws column column′ → r ≡ passResult (passOf a) → SharesResult k p r rs ls ps ws column column′
 carried {k} {p} {r} {rs} {ls} {ps} {ws} {column} {column′} a s e =
     record {
-      result = e ∙ ap checkResult (s .answer);
+      result = e ∙ ap passResult (s .answer);
       written = s .written ∙ ap (λ (o : Outcome (Unit {0})). lent o (boundaries p ws) column) (s .answer);
     }
 

@@ -3,7 +3,7 @@ use mathlib.Core.Path.{ap, _∙_, sym}
 use borrow.Author.Needs.{needs}
 use Rattle.paper.specs.declared.PassAnswer.{PassAnswer}
 use Rattle.paper.specs.Readings.{passOf}
-use Rattle.interface.specs.Results.{checkResult}
+use Rattle.interface.specs.Results.{passResult}
 use Rattle.interface.proofs.results.of_pass.Statement.{statement}
 use Rattle.interface.proofs.results.of_pass.Tie as tie
 
@@ -17,12 +17,12 @@ word-requires : tie.Need-word-requires
 word-requires c κs = search needs
 
 returns : tie.Need-returns
-unfolding checkResult
-returns c = ap (λ (a : PassAnswer). checkResult (passOf a)) (sym (c .enum-told .given .1))
+unfolding passResult
+returns c = ap (λ (a : PassAnswer). passResult (passOf a)) (sym (c .enum-told .given .1))
 
 returns-2 : tie.Need-returns-2
-unfolding checkResult
-returns-2 c = c .word .ensures ∙ ap (λ (a : PassAnswer). checkResult (passOf a)) (sym (c .before .before .a .given .1))
+unfolding passResult
+returns-2 c = c .word .ensures ∙ ap (λ (a : PassAnswer). passResult (passOf a)) (sym (c .before .before .a .given .1))
 
 pub of-pass-spec : {M : Type 1} → statement M
 of-pass-spec = tie.close (tie.spec enum-told enum-known-a word-requires returns returns-2)
