@@ -1,42 +1,56 @@
--- The loop of a uniform start: one entry more in each of three columns. Assumes nothing.
-use mathlib.Core.Path.{_≡_, refl, ap, _∙_}
-use mathlib.Core.List.{List}
-use Prim.Native.Nat.{ℕ, _+_, _-_, _*_, _/_, _%_, _^_, _≤_, _<_}
-use native.Mathlib.Nat.{div-add-mod', div-mul-le-self}
+-- The columns of a uniform start: the leaves of a root all have its number, so a root's run of entries makes the front longer by a root.
+-- Assumes nothing.
+use mathlib.Core.Path.{_≡_, refl, ap, ap₂, _∙_, sym}
+use mathlib.Core.List.{List, _∷_, _++_}
+use Prim.Native.Nat.{ℕ, zero, suc, _+_, _*_, _/_, _%_, _^_, _≤_, _<_}
+use native.Mathlib.Nat.{add-zero, add-suc, suc-add, zero-add, one-mul, mod-eq-of-lt, div-eq-of-lt-le, mul-le-mul-right}
 use native.Mathlib.Omega.{arith}
-use lib.ListN.{length, set}
-use Rattle.paper.proofs.Front.{front-length, front-more}
-use Rattle.tree.proofs.Anchor.{shift-back}
-use Rattle.leaves.specs.Start.{Filled}
+use lib.ListN.{length}
+use lib.Pow.{pow-lt}
+use lib.Seq.{sets}
+use Rattle.paper.specs.Outcome.{rows}
+use Rattle.paper.specs.Memory.{written}
+use Rattle.paper.proofs.Scan.{rows-length}
+use Rattle.paper.proofs.Front.{written-run}
+use Rattle.leaves.proofs.Span.{more-mul}
 
--- ---- what the code computes for entry i
-pub root-start : (i b : ℕ) → i < 2 ^ 64 → i / 2 ^ b * 2 ^ b % 2 ^ 64 ≤ i
-root-start i b small = omega (arith, shift-back i b (2 ^ 64) small, div-mul-le-self i (2 ^ b))
+-- ---- rows in two parts
+rows-two : (f : ℕ → ℕ) (i a m : ℕ) → rows f i (a + m) ≡ rows f i a ++ rows f (i + a) m
+rows-two f i zero m = ap₂ (λ (j k : ℕ). rows f j k) (sym (add-zero i)) (zero-add m)
+rows-two f i (suc a) m =
+    ap (rows f i) (suc-add a m)
+    ∙ ap (λ (xs : List ℕ). f i ∷ xs) (rows-two f (suc i) a m ∙ ap (λ (j : ℕ). rows f (suc i) a ++ rows f j m) (suc-add i a ∙ sym (add-suc i a)))
 
-pub in-root : (i b : ℕ) → i < 2 ^ 64 → i - i / 2 ^ b * 2 ^ b % 2 ^ 64 ≡ i % 2 ^ b
-in-root i b small = omega (arith, shift-back i b (2 ^ 64) small, div-add-mod' i (2 ^ b))
+rows-equal : (f : ℕ → ℕ) (r i j m : ℕ) → ((k : ℕ) → i ≤ k → k < i + m → f k ≡ r) → rows f i m ≡ rows (λ k. r) j m
+rows-equal f r i j zero same = refl
+rows-equal f r i j (suc m) same =
+    ap₂ (λ (x : ℕ) (xs : List ℕ). x ∷ xs) (same i (omega arith) (omega arith))
+    (rows-equal f r (suc i) (suc j) m (λ k low high. same k (omega arith) (omega arith)))
 
-module _ (b level : ℕ) (roots levels positions : List ℕ) where
-  pub filled-none : Filled b level 0 roots levels positions roots levels positions
-  filled-none = record { in-roots = refl; in-levels = refl; in-positions = refl }
+-- ---- what the code shifts
+pub each-is : (b : ℕ) → b < 64 → 1 * 2 ^ b % 2 ^ 64 ≡ 2 ^ b
+each-is b small = ap (λ (k : ℕ). k % 2 ^ 64) (one-mul (2 ^ b)) ∙ mod-eq-of-lt (pow-lt small)
 
-  module _ (i : ℕ) (rs ls ps : List ℕ) (f : Filled b level i roots levels positions rs ls ps) where
-    pub filled-more : i < length roots → i < length levels → i < length positions
-        → Filled b level (i + 1) roots levels positions (set rs i (i / 2 ^ b)) (set ls i level) (set ps i (i % 2 ^ b))
-    filled-more in-r in-l in-p =
-        record {
-          in-roots = ap (λ (l : List ℕ). set l i (i / 2 ^ b)) (f .in-roots) ∙ front-more (λ j. j / 2 ^ b) roots i in-r;
-          in-levels = ap (λ (l : List ℕ). set l i level) (f .in-levels) ∙ front-more (λ j. level) levels i in-l;
-          in-positions = ap (λ (l : List ℕ). set l i (i % 2 ^ b)) (f .in-positions) ∙ front-more (λ j. j % 2 ^ b) positions i in-p;
-        }
+pub count-is : (b k : ℕ) → k * 2 ^ b ≤ 1048576 → k * 2 ^ b % 2 ^ 64 ≡ k * 2 ^ b
+count-is b k few = mod-eq-of-lt (omega (arith, few))
 
--- the columns stay as long as they were
-module _ {b level i : ℕ} {roots levels positions rs ls ps : List ℕ} (f : Filled b level i roots levels positions rs ls ps) where
-  pub roots-long : i ≤ length roots → length rs ≡ length roots
-  roots-long room = ap length (f .in-roots) ∙ front-length (λ j. j / 2 ^ b) roots i room
+module _ (b k r : ℕ) (few : k * 2 ^ b ≤ 1048576) (inside : r < k) where
+  pub start-le : r * 2 ^ b + 2 ^ b ≤ k * 2 ^ b
+  start-le = let next : r + 1 ≤ k = omega arith in omega (arith, more-mul r (2 ^ b), mul-le-mul-right (2 ^ b) next)
 
-  pub levels-long : i ≤ length levels → length ls ≡ length levels
-  levels-long room = ap length (f .in-levels) ∙ front-length (λ j. level) levels i room
+  pub start-is : r * 2 ^ b % 2 ^ 64 ≡ r * 2 ^ b
+  start-is = mod-eq-of-lt (omega (arith, start-le))
 
-  pub positions-long : i ≤ length positions → length ps ≡ length positions
-  positions-long room = ap length (f .in-positions) ∙ front-length (λ j. j % 2 ^ b) positions i room
+  -- one root more
+  pub root-more : (l : List ℕ) → k * 2 ^ b ≤ length l
+      → sets (written (rows (λ i. i / 2 ^ b) 0 (r * 2 ^ b)) l) (r * 2 ^ b) (rows (λ i. r) 0 (2 ^ b))
+      ≡ written (rows (λ i. i / 2 ^ b) 0 ((r + 1) * 2 ^ b)) l
+  root-more l room =
+      let f : ℕ → ℕ = λ i. i / 2 ^ b in
+      let long : length (rows f 0 (r * 2 ^ b)) ≡ r * 2 ^ b = rows-length f 0 (r * 2 ^ b) in
+      let run : length (rows (λ i. r) 0 (2 ^ b)) ≡ 2 ^ b = rows-length (λ i. r) 0 (2 ^ b) in
+      let own : rows f (0 + r * 2 ^ b) (2 ^ b) ≡ rows (λ i. r) 0 (2 ^ b) =
+      rows-equal f r (0 + r * 2 ^ b) 0 (2 ^ b) (λ j low high. div-eq-of-lt-le (2 ^ b) (omega arith) (omega (arith, more-mul r (2 ^ b)))) in
+      ap (λ (i : ℕ). sets (written (rows f 0 (r * 2 ^ b)) l) i (rows (λ i. r) 0 (2 ^ b))) (sym long)
+      ∙ written-run (rows f 0 (r * 2 ^ b)) (rows (λ i. r) 0 (2 ^ b)) l (omega (arith, start-le))
+      ∙ ap (λ (xs : List ℕ). written xs l) (sym (ap (rows f 0) (more-mul r (2 ^ b)) ∙ rows-two f 0 (r * 2 ^ b) (2 ^ b) ∙ ap (λ (xs : List ℕ). rows f 0 (r * 2 ^ b) ++ xs) own))

@@ -10,3 +10,5 @@ pub mod Turns
 pub mod Filling
 pub mod Entries
 pub mod Ancestors
+pub mod Powers
+pub mod Steps

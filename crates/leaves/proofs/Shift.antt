@@ -41,6 +41,10 @@ module _ (b L : ℕ) (narrow : b * L ≤ 63) where
   pub whole-root : 1 * 2 ^ (b * L) % 2 ^ 64 ≡ (2 ^ b) ^ L
   whole-root = shifted-power b L (omega arith)
 
+  -- a root's smallest cells fit a word
+  pub root-cells : (2 ^ b) ^ L ≤ 2 ^ 63
+  root-cells = rw (power-bits b L) (pow-mono narrow)
+
   pub position-lt : (p l : ℕ) → l ≤ L → p < (2 ^ b) ^ l → p < 2 ^ 63
   position-lt p l shallow below =
       let small : 2 ^ (b * l) ≤ 2 ^ 63 = pow-mono (bits-le l shallow) in

@@ -2,7 +2,7 @@
 use mathlib.Core.Path.{_≡_, refl, ap, _∙_, sym, subst}
 use mathlib.Core.List.{List, map}
 use Prim.Native.Nat.{ℕ, _*_, _/_, _%_, _^_, _≤_, _<_}
-use native.Mathlib.Nat.{div-lt-iff-lt-mul, mod-eq-of-lt, mul-div-cancel, mul-le-mul-right, div-mul-le-self, le-trans}
+use native.Mathlib.Nat.{div-lt-iff-lt-mul, mod-eq-of-lt, mul-le-mul-right, div-mul-le-self, le-trans}
 use native.Mathlib.Omega.{arith}
 use lib.ListN.{length}
 use lib.Pow.{pow-pos}
@@ -30,9 +30,6 @@ module _ (k l : ℕ) where
   pub count-exact : k * 8 ^ l ≤ 1048576 → k * 2 ^ (3 * l) % 2 ^ 64 ≡ k * 8 ^ l
   count-exact under = rw (sym leaves-shifted) (mod-eq-of-lt (omega (arith, under)))
 
-  pub roots-fit : k ≤ 4096 → k * 8 ^ l / 2 ^ (3 * l) ≤ 4096
-  roots-fit small = rw (leaves-shifted, mul-div-cancel k (pow-pos (3 * l))) small
-
   module _ (rs ls ps : List ℕ) where
     pub not-started : (fault spot : ℕ) → refused fault spot ≡ uniform 8 21 k l (equalColumns rs ls ps) (length rs)
         → Started k l (number.Refused fault spot) rs ls ps rs ls ps
@@ -46,15 +43,15 @@ module _ (k l : ℕ) where
         (e ∙ ap (λ (j : ℕ). written (rows (λ i. g (leaf (i / 2 ^ (3 * l)) l (i % 2 ^ (3 * l)))) 0 j) old) exact
         ∙ ap (λ (xs : List ℕ). written xs old) (sym (map-rows g (λ i. leaf (i / 2 ^ (3 * l)) l (i % 2 ^ (3 * l))) 0 (k * 8 ^ l))))
 
-    pub started : {rs′ ls′ ps′ : List ℕ} (m : ℕ) → m ≡ k * 8 ^ l → Filled (3 * l) l m rs ls ps rs′ ls′ ps′
+    pub started : {rs′ ls′ ps′ : List ℕ} (m : ℕ) → m ≡ k * 8 ^ l → Filled (3 * l) l (k * 2 ^ (3 * l)) rs ls ps rs′ ls′ ps′
         → accepted (k * 8 ^ l) ≡ uniform 8 21 k l (equalColumns rs ls ps) (length rs)
         → Started k l (number.Is m) rs ls ps rs′ ls′ ps′
     started {rs′} {ls′} {ps′} m exact f e =
         record {
           answer = ap accepted exact ∙ e;
           columns = record {
-            roots-after = column m (λ (v : Leaf). v .root) rs rs′ (f .in-roots) exact;
-            levels-after = column m (λ (v : Leaf). v .level) ls ls′ (f .in-levels) exact;
-            positions-after = column m (λ (v : Leaf). v .position) ps ps′ (f .in-positions) exact;
+            roots-after = column (k * 2 ^ (3 * l)) (λ (v : Leaf). v .root) rs rs′ (f .in-roots) (sym leaves-shifted);
+            levels-after = column (k * 2 ^ (3 * l)) (λ (v : Leaf). v .level) ls ls′ (f .in-levels) (sym leaves-shifted);
+            positions-after = column (k * 2 ^ (3 * l)) (λ (v : Leaf). v .position) ps ps′ (f .in-positions) (sym leaves-shifted);
           };
         }

@@ -5,15 +5,17 @@ use paper::NumberAnswer;
 use paper::PassAnswer;
 ghost use mathlib.Core.Path.{_≡_};
 ghost use mathlib.Core.Bool.{true, _&&_};
-ghost use Prim.Native.Nat.{_*_, _^_, _≤_, _<_};
+ghost use Prim.Native.Nat.{_-_, _*_, _^_, _≤_, _<_};
 ghost use lib.Dec.{eqb};
 ghost use lib.ListN.{length};
-ghost use Rattle.paper.specs.Outcome.{passed};
+ghost use Rattle.paper.specs.Outcome.{passed, rows};
 ghost use Rattle.paper.specs.Readings.{checksOf, passOf};
-ghost use Rattle.leaves.specs.Leaves.{leaves, place};
-ghost use Rattle.leaves.specs.Calls.{outOfRange, walked, listed};
+ghost use Rattle.leaves.specs.Leaves.{leafAt, leaves, place};
+ghost use Rattle.leaves.specs.Calls.{outOfRange, leafFault, walked, listed};
+ghost use Rattle.leaves.specs.Readings.{placeOf};
 ghost use Rattle.leaves.specs.Start.{Started};
 
+mod power;
 mod start;
 mod step;
 
@@ -93,27 +95,64 @@ pub fn uniform(
     if (roots.len() as u64) < count {
         return NumberAnswer::Refused(14, count);
     }
-    start::fill(3 * level, level, count as usize, roots, levels, positions);
+    start::fill(k, 3 * level, level, roots, levels, positions);
     NumberAnswer::Is(count)
 }
 
-// The leaves in turn, each where the one before it ended; then that the last root is full.
+// The leaves in turn, each where the one before it ended, to the first that doesn't start there or to the end of the last root.
 fn walk(bits: u8, highest: u8, k: u16, roots: &[u16], levels: &[u8], positions: &[u64]) -> Fault
-    requires { ⌜ (0 < bits) × ((bits * highest ≤ 63) × ((length (now roots) ≡ length (now levels)) × (length (now roots) ≡ length (now positions)))) ⌝ }
+    requires { ⌜ (0 < bits) × ((bits * highest ≤ 63) × ((0 < k) × ((length (now roots) ≡ length (now levels)) × (length (now roots) ≡ length (now positions))))) ⌝ }
     ensures { λ r. ⌜ checksOf r ≡ walked (2 ^ bits) highest k 0 (place 0 0) (leaves (now (roots .entry)) (now (levels .entry)) (now (positions .entry))) passed ⌝ }
 {
-    let mut at = Cursor { root: 0, cell: 0 };
+    let whole = 1u64 << (bits * highest);
+    let mut root = 0;
+    let mut cell = 0;
     let mut i = 0;
     while i < roots.len() {
-        let fault = step::leaf_fault(bits, highest, k, at, roots[i], levels[i], positions[i]);
-        if fault != 0 {
-            return Fault {
-                number: fault,
-                place: i as u64,
-            };
+        let at = Cursor { root, cell };
+        if highest < levels[i] {
+            return stopped(bits, highest, k, at, i, roots, levels, positions);
         }
-        at = step::after(bits, highest, roots[i], levels[i], positions[i]);
+        let count = power::of_children(bits, levels[i]);
+        let cells = power::of_children(bits, highest - levels[i]);
+        if !step::starts(at, count, cells, roots[i], positions[i]) {
+            return stopped(bits, highest, k, at, i, roots, levels, positions);
+        }
         i += 1;
+        cell += cells;
+        if cell != whole {
+            continue;
+        }
+        root += 1;
+        cell = 0;
+        if root == k {
+            let at = Cursor { root, cell };
+            return stopped(bits, highest, k, at, i, roots, levels, positions);
+        }
+    }
+    let at = Cursor { root, cell };
+    stopped(bits, highest, k, at, i, roots, levels, positions)
+}
+
+// Where the walk stopped: the fault of the leaf there, or else that the last root is full.
+fn stopped(
+    bits: u8,
+    highest: u8,
+    k: u16,
+    at: Cursor,
+    i: usize,
+    roots: &[u16],
+    levels: &[u8],
+    positions: &[u64],
+) -> Fault
+    requires { ⌜ (0 < bits) × ((bits * highest ≤ 63) × ((length (now roots) ≡ length (now levels)) × ((length (now roots) ≡ length (now positions)) × (i < length (now roots) → leafFault (2 ^ bits) highest k (placeOf at) (leafAt (now roots) (now levels) (now positions) i) ≡ 0 → ⊥)))) ⌝ }
+    ensures { λ r. ⌜ checksOf r ≡ walked (2 ^ bits) highest k i (placeOf at) (rows (leafAt (now (roots .entry)) (now (levels .entry)) (now (positions .entry))) i (length (now (roots .entry)) - i)) passed ⌝ }
+{
+    if i < roots.len() {
+        return Fault {
+            number: step::leaf_fault(bits, highest, k, at, roots[i], levels[i], positions[i]),
+            place: i as u64,
+        };
     }
     if at.root != k {
         return Fault {

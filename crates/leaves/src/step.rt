@@ -1,8 +1,10 @@
-// One leaf of a list: its faults, and where it ends.
+// One leaf of a list: whether it starts where it should, and which fault it has if it doesn't.
 use crate::Cursor;
 ghost use mathlib.Core.Path.{_≡_};
+ghost use mathlib.Core.Bool.{_&&_};
 ghost use Prim.Native.Nat.{_*_, _^_, _≤_, _<_};
-ghost use Rattle.leaves.specs.Leaves.{leaf, endOf};
+ghost use lib.Dec.{ltb, eqb};
+ghost use Rattle.leaves.specs.Leaves.{leaf};
 ghost use Rattle.leaves.specs.Calls.{leafFault};
 ghost use Rattle.leaves.specs.Readings.{placeOf};
 
@@ -37,17 +39,16 @@ pub(crate) fn leaf_fault(
     0
 }
 
-// Where a sound leaf ends.
-pub(crate) fn after(bits: u8, highest: u8, root: u16, level: u8, position: u64) -> Cursor
-    requires { ⌜ (0 < bits) × ((bits * highest ≤ 63) × ((level ≤ highest) × ((position < (2 ^ bits) ^ level) × (root < 65535)))) ⌝ }
-    ensures { λ r. ⌜ placeOf r ≡ endOf (2 ^ bits) highest (leaf root level position) ⌝ }
+// Whether a leaf starts where the list has come to, with a position of its level: of so many elements, each of so many smallest cells.
+pub(crate) fn starts(at: Cursor, count: u64, cells: u64, root: u16, position: u64) -> bool
+    requires { ⌜ count * cells < 2 ^ 64 ⌝ }
+    ensures { λ r. ⌜ r ≡ (ltb position count && (eqb root (at .root) && eqb (position * cells) (at .cell))) ⌝ }
 {
-    let past = (position + 1) << (bits * (highest - level));
-    if past == 1u64 << (bits * highest) {
-        return Cursor {
-            root: root + 1,
-            cell: 0,
-        };
+    if count <= position {
+        return false;
     }
-    Cursor { root, cell: past }
+    if root != at.root {
+        return false;
+    }
+    position * cells == at.cell
 }

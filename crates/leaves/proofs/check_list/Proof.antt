@@ -2,11 +2,12 @@
 use mathlib.Core.Path.{_∙_, sym}
 use mathlib.Core.Bool.{and-eq-true-iff}
 use native.Mathlib.Omega.{arith}
-use lib.Dec.{eqb}
+use lib.Dec.{ltb, eqb}
 use lib.ListN.{length}
 use borrow.Author.Needs.{needs}
-use borrow.Author.Tests.{lt-ltb, le-ltb, eq-eqb, ne-eqb, eqb-true, not-true, not-false}
+use borrow.Author.Tests.{lt-ltb, le-ltb, eq-eqb, ne-eqb, eqb-true, eqb-false, not-true, not-false}
 use Rattle.paper.specs.Outcome.{passed}
+use Rattle.paper.proofs.Tests.{or-none}
 use Rattle.paper.proofs.Scan.{fault-taken, fault-none}
 use Rattle.leaves.proofs.check_list.Statement.{statement}
 use Rattle.leaves.proofs.check_list.Tie as tie
@@ -32,7 +33,9 @@ returns-4 c = simp (sym (c .before .before .before .before .before .out-of-range
 walk-requires : tie.Need-walk-requires
 walk-requires c κs =
     let equal = and-eq-true-iff (eqb (length (c .before .before .before .before .before .before .before .before .before .args .roots .now)) (length (c .before .before .before .before .before .before .before .before .before .args .levels .now))) (eqb (length (c .before .before .before .before .before .before .before .before .before .args .roots .now)) (length (c .before .before .before .before .before .before .before .before .before .args .positions .now))) .0 (sym (c .before .before .before .equal-lengths .ensures) ∙ not-false (c .before .before .before .equal-lengths .result) (c .before .before .if2 .left)) in
-    (omega arith, (omega arith, (eqb-true (length (c .before .before .before .before .before .before .before .before .before .args .roots .now)) (length (c .before .before .before .before .before .before .before .before .before .args .levels .now)) (equal .0), eqb-true (length (c .before .before .before .before .before .before .before .before .before .args .roots .now)) (length (c .before .before .before .before .before .before .before .before .before .args .positions .now)) (equal .1))))
+    let range = or-none (eqb (c .before .before .before .before .before .before .before .before .before .args .k) 0) (ltb 4096 (c .before .before .before .before .before .before .before .before .before .args .k)) (sym (c .before .before .before .before .before .out-of-range .ensures) ∙ (c .before .before .before .before .if1 .left)) in
+    let other = eqb-false (c .before .before .before .before .before .before .before .before .before .args .k) 0 (range .0) in
+    (omega arith, (omega arith, (omega arith, (eqb-true (length (c .before .before .before .before .before .before .before .before .before .args .roots .now)) (length (c .before .before .before .before .before .before .before .before .before .args .levels .now)) (equal .0), eqb-true (length (c .before .before .before .before .before .before .before .before .before .args .roots .now)) (length (c .before .before .before .before .before .before .before .before .before .args .positions .now)) (equal .1)))))
 
 returns-5 : tie.Need-returns-5
 returns-5 c = simp (sym (c .before .before .before .before .before .before .before .before .out-of-range .ensures), (c .before .before .before .before .before .before .before .if1 .left), sym (c .before .before .before .before .before .before .equal-lengths .ensures), not-false (c .before .before .before .before .before .before .equal-lengths .result) (c .before .before .before .before .before .if2 .left), ne-eqb (length (c .before .before .before .before .before .before .before .before .before .before .before .before .args .roots .now)) 0 (c .before .before .before .before .if3 .left), le-ltb 1048576 (length (c .before .before .before .before .before .before .before .before .before .before .before .before .args .roots .now)) (c .before .before .before .if4 .left)) (sym (fault-taken (c .before .before .walk .result .number) (c .before .before .walk .result .place) passed (c .if5 .taken)) ∙ (c .before .before .walk .ensures))

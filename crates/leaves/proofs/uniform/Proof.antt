@@ -3,14 +3,13 @@ use mathlib.Core.Path.{_∙_, sym, subst⁻¹}
 use mathlib.Core.Bool.{and-eq-true-iff}
 use Prim.Native.Nat.{ℕ, _*_, _^_, _≤_, _<_}
 use native.Mathlib.Omega.{arith}
-use lib.Dec.{ltb, eqb}
+use lib.Dec.{eqb}
 use lib.ListN.{length}
 use borrow.Author.Needs.{needs}
-use borrow.Author.Tests.{lt-ltb, le-ltb, ltb-false, eqb-true, not-true, not-false}
-use Rattle.paper.proofs.Tests.{or-none}
+use borrow.Author.Tests.{lt-ltb, le-ltb, eqb-true, not-true, not-false}
 use Rattle.paper.specs.declared.NumberAnswer.the-variants as number
 use Rattle.leaves.specs.Start.{Started}
-use Rattle.leaves.proofs.Starting.{too-many, few-enough, count-exact, not-started, started, roots-fit}
+use Rattle.leaves.proofs.Starting.{too-many, few-enough, count-exact, not-started, started, leaves-shifted}
 use Rattle.leaves.proofs.uniform.Statement.{statement}
 use Rattle.leaves.proofs.uniform.Tie as tie
 
@@ -68,17 +67,13 @@ fill-requires c κs =
     let few = few-enough (c .before .before .before .before .before .before .before .before .before .before .before .before .before .args .k) (c .before .before .before .before .before .before .before .before .before .before .before .before .before .args .level) 1048576 (c .before .before .before .before .if4 .left) in
     let exact = count-exact (c .before .before .before .before .before .before .before .before .before .before .before .before .before .args .k) (c .before .before .before .before .before .before .before .before .before .before .before .before .before .args .level) few in
     let room : (c .before .before .before .before .before .before .before .before .before .before .before .before .before .args .k) * 8 ^ (c .before .before .before .before .before .before .before .before .before .before .before .before .before .args .level) ≤ length (c .before .before .before .before .before .before .before .before .before .before .before .before .before .args .roots .now) = rw (sym exact) (c .before .before .before .if5 .left) in
-    let range = or-none (eqb (c .before .before .before .before .before .before .before .before .before .before .before .before .before .args .k) 0) (ltb 4096 (c .before .before .before .before .before .before .before .before .before .before .before .before .before .args .k)) (sym (c .before .before .before .before .before .before .before .before .before .out-of-range .ensures) ∙ (c .before .before .before .before .before .before .before .before .if1 .left)) in
     let equal = and-eq-true-iff (eqb (length (c .before .before .before .before .before .before .before .before .before .before .before .before .before .args .roots .now)) (length (c .before .before .before .before .before .before .before .before .before .before .before .before .before .args .levels .now))) (eqb (length (c .before .before .before .before .before .before .before .before .before .before .before .before .before .args .roots .now)) (length (c .before .before .before .before .before .before .before .before .before .before .before .before .before .args .positions .now))) .0 (sym (c .before .before .before .before .before .before .before .equal-lengths .ensures) ∙ not-false (c .before .before .before .before .before .before .before .equal-lengths .result) (c .before .before .before .before .before .before .if2 .left)) in
     let same-levels = eqb-true (length (c .before .before .before .before .before .before .before .before .before .before .before .before .before .args .roots .now)) (length (c .before .before .before .before .before .before .before .before .before .before .before .before .before .args .levels .now)) (equal .0) in
     let same-positions = eqb-true (length (c .before .before .before .before .before .before .before .before .before .before .before .before .before .args .roots .now)) (length (c .before .before .before .before .before .before .before .before .before .before .before .before .before .args .positions .now)) (equal .1) in (
       omega (arith, (c .before .before .before .before .before .if3 .left)),
       (
-        rw exact few,
-        (
-          rw exact (roots-fit (c .before .before .before .before .before .before .before .before .before .before .before .before .before .args .k) (c .before .before .before .before .before .before .before .before .before .before .before .before .before .args .level) (ltb-false 4096 (c .before .before .before .before .before .before .before .before .before .before .before .before .before .args .k) (range .1))),
-          (rw exact room, (rw exact (omega (arith, room, same-levels)), rw exact (omega (arith, room, same-positions)))),
-        ),
+        rw (leaves-shifted (c .before .before .before .before .before .before .before .before .before .before .before .before .before .args .k) (c .before .before .before .before .before .before .before .before .before .before .before .before .before .args .level)) at few,
+        (rw (leaves-shifted (c .before .before .before .before .before .before .before .before .before .before .before .before .before .args .k) (c .before .before .before .before .before .before .before .before .before .before .before .before .before .args .level)) at room, (omega (arith, leaves-shifted (c .before .before .before .before .before .before .before .before .before .before .before .before .before .args .k) (c .before .before .before .before .before .before .before .before .before .before .before .before .before .args .level), room, same-levels), omega (arith, leaves-shifted (c .before .before .before .before .before .before .before .before .before .before .before .before .before .args .k) (c .before .before .before .before .before .before .before .before .before .before .before .before .before .args .level), room, same-positions))),
       ),
     )
 

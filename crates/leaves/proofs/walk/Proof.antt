@@ -1,91 +1,116 @@
 -- `walk` meets its contract: the leaves before i are sound, so the check is that of the leaves from i on. Assumes nothing.
 use mathlib.Core.Path.{_≡_, ap, _∙_, sym}
-use Prim.Native.Nat.{ℕ, _+_, _-_, _^_, _≤_}
+use mathlib.Core.Bool.{true≢false}
+use Prim.Native.Nat.{ℕ, _+_, _-_, _^_, _≤_, _<_}
 use native.Mathlib.Nat.{sub-zero}
 use native.Mathlib.Omega.{arith}
 use lib.ListN.{length}
-use Rattle.paper.specs.Outcome.{passed, refused, rows}
-use Rattle.paper.proofs.Scan.{fault-taken}
-use Rattle.leaves.specs.Leaves.{leafAt, leaves, Place, place}
+use borrow.Author.Tests.{not-true, not-false}
+use Rattle.paper.specs.Outcome.{passed, rows}
+use Rattle.leaves.specs.Leaves.{leafAt, leaves, place}
 use Rattle.leaves.specs.Calls.{walked}
-use Rattle.leaves.specs.Readings.{placeOf}
-use Rattle.leaves.proofs.Turns.{walk-next, walk-found, walk-short-root, walk-short-cell, walk-full}
-use Rattle.leaves.proofs.Check.{faultless-fits}
+use Rattle.leaves.proofs.Shift.{bits-le, bits-left, whole-root, root-cells}
+use Rattle.leaves.proofs.Steps.{product-is, above-fault, starts-faultless, faultless-starts, ends-le, none-after, walk-within, walk-last}
 use Rattle.leaves.proofs.walk.Statement.{statement}
 use Rattle.leaves.proofs.walk.Tie as tie
 
 abbrev Inv-loop : tie.InvT-loop
-Inv-loop bits highest k roots levels positions at₀ i₀ at i = (i ≤ length roots) × (walked (2 ^ bits) highest k 0 (place 0 0) (leaves roots levels positions) passed ≡ walked (2 ^ bits) highest k i (placeOf at) (rows (leafAt roots levels positions) i (length roots - i)) passed)
+Inv-loop bits highest k roots levels positions whole root₀ cell₀ i₀ root cell i = (i ≤ length roots) × ((root < k) × (walked (2 ^ bits) highest k 0 (place 0 0) (leaves roots levels positions) passed ≡ walked (2 ^ bits) highest k i (place root cell) (rows (leafAt roots levels positions) i (length roots - i)) passed))
 
 abbrev μ-loop : tie.MeasureT-loop
-μ-loop bits highest k roots levels positions at₀ i₀ at i = length roots - i
+μ-loop bits highest k roots levels positions whole root₀ cell₀ i₀ root cell i = length roots - i
+
+mul-whole : tie.Need-mul-whole Inv-loop μ-loop
+mul-whole c = omega (arith, (c .before .before .before .pre .1 .0))
+
+cast-whole : tie.Need-cast-whole Inv-loop μ-loop
+cast-whole c = omega (arith, (c .before .before .before .pre .1 .0))
+
+shl-whole : tie.Need-shl-whole Inv-loop μ-loop
+shl-whole c = omega (arith, (c .before .before .before .pre .1 .0))
 
 loop-holds : tie.Need-loop-holds Inv-loop μ-loop
-loop-holds c = (omega arith, ap (λ (j : ℕ). walked (2 ^ c .before .before .before .args .bits) (c .before .before .before .args .highest) (c .before .before .before .args .k) 0 (place 0 0) (rows (leafAt (c .before .before .before .args .roots .now) (c .before .before .before .args .levels .now) (c .before .before .before .args .positions .now)) 0 j) passed) (sym (sub-zero (length (c .before .before .before .args .roots .now)))))
+loop-holds c = (omega arith, ((c .before .before .before .pre .1 .1 .0), ap (λ (j : ℕ). walked (2 ^ (c .before .before .before .args .bits)) (c .before .before .before .args .highest) (c .before .before .before .args .k) 0 (place 0 0) (rows (leafAt (c .before .before .before .args .roots .now) (c .before .before .before .args .levels .now) (c .before .before .before .args .positions .now)) 0 j) passed) (sym (sub-zero (length (c .before .before .before .args .roots .now))))))
 
-mul-leaf-fault : tie.Need-mul-leaf-fault Inv-loop μ-loop
-mul-leaf-fault c = omega arith
+shared-slice-read-if1 : tie.Need-shared-slice-read-if1 Inv-loop μ-loop
+shared-slice-read-if1 c = omega (arith, (c .before .before .before .before .before .before .pre .1 .1 .1 .0))
 
-shared-slice-read-leaf-fault : tie.Need-shared-slice-read-leaf-fault Inv-loop μ-loop
-shared-slice-read-leaf-fault c = omega (arith, c .before .before .before .before .before .before .pre .1 .1 .0, c .before .before .before .before .before .before .pre .1 .1 .1)
-
-shared-slice-read-leaf-fault-2 : tie.Need-shared-slice-read-leaf-fault-2 Inv-loop μ-loop
-shared-slice-read-leaf-fault-2 c = omega (arith, c .before .before .before .before .before .before .before .pre .1 .1 .0, c .before .before .before .before .before .before .before .pre .1 .1 .1)
-
-mul-leaf-fault-2 : tie.Need-mul-leaf-fault-2 Inv-loop μ-loop
-mul-leaf-fault-2 c = omega arith
-
-shared-slice-read-leaf-fault-3 : tie.Need-shared-slice-read-leaf-fault-3 Inv-loop μ-loop
-shared-slice-read-leaf-fault-3 c = omega (arith, c .before .before .before .before .before .before .before .before .pre .1 .1 .0, c .before .before .before .before .before .before .before .before .pre .1 .1 .1)
-
-leaf-fault-requires : tie.Need-leaf-fault-requires Inv-loop μ-loop
-leaf-fault-requires c κs = (c .before .before .before .before .before .before .before .before .pre .0, c .before .before .before .before .before .before .before .before .pre .1 .0)
+stopped-requires : tie.Need-stopped-requires Inv-loop μ-loop
+stopped-requires c κs = ((c .before .before .before .before .before .before .before .pre .0), ((c .before .before .before .before .before .before .before .pre .1 .0), ((c .before .before .before .before .before .before .before .pre .1 .1 .1 .0), ((c .before .before .before .before .before .before .before .pre .1 .1 .1 .1), λ inside none. above-fault (2 ^ (c .before .before .before .before .before .before .before .args .bits)) (c .before .before .before .before .before .before .before .args .highest) (c .before .before .before .before .before .before .before .args .k) (place (c .before .before .before .loop .root) (c .before .before .before .loop .cell)) ((leafAt (c .before .before .before .before .before .before .before .args .roots .now) (c .before .before .before .before .before .before .before .args .levels .now) (c .before .before .before .before .before .before .before .args .positions .now)) (c .before .before .before .loop .i)) (c .if1 .taken) none))))
 
 returns : tie.Need-returns Inv-loop μ-loop
-returns c =
-    fault-taken (c .before .leaf-fault .result) (c .before .before .before .before .before .before .loop .i) passed (c .if1 .taken)
-    ∙ ap (λ (j : ℕ). refused j (c .before .before .before .before .before .before .loop .i)) (c .before .leaf-fault .ensures)
-    ∙ sym (c .before .before .before .before .before .before .loop .inv .1 ∙ walk-found (2 ^ c .before .before .before .before .before .before .before .before .before .before .args .bits) (c .before .before .before .before .before .before .before .before .before .before .args .highest) (c .before .before .before .before .before .before .before .before .before .before .args .k) passed (leafAt (c .before .before .before .before .before .before .before .before .before .before .args .roots .now) (c .before .before .before .before .before .before .before .before .before .before .args .levels .now) (c .before .before .before .before .before .before .before .before .before .before .args .positions .now)) (length (c .before .before .before .before .before .before .before .before .before .before .args .roots .now)) (c .before .before .before .before .before .before .loop .i) (placeOf (c .before .before .before .before .before .before .loop .at)) (omega arith) (λ none. c .if1 .taken (c .before .leaf-fault .ensures ∙ none)))
+returns c = (c .stopped .ensures) ∙ sym (c .before .before .before .before .loop .inv .1 .1)
 
-mul-after : tie.Need-mul-after Inv-loop μ-loop
-mul-after c = omega arith
+shared-slice-read-of-children : tie.Need-shared-slice-read-of-children Inv-loop μ-loop
+shared-slice-read-of-children c = omega (arith, (c .before .before .before .before .before .before .before .before .pre .1 .1 .1 .0))
 
-shared-slice-read-after : tie.Need-shared-slice-read-after Inv-loop μ-loop
-shared-slice-read-after c = omega (arith, c .before .before .before .before .before .before .before .before .before .before .before .pre .1 .1 .0, c .before .before .before .before .before .before .before .before .before .before .before .pre .1 .1 .1)
+of-children-requires : tie.Need-of-children-requires Inv-loop μ-loop
+of-children-requires c κs = bits-le (c .before .before .before .before .before .before .before .before .args .bits) (c .before .before .before .before .before .before .before .before .args .highest) (c .before .before .before .before .before .before .before .before .pre .1 .0) _ (c .before .if1 .left)
 
-shared-slice-read-after-2 : tie.Need-shared-slice-read-after-2 Inv-loop μ-loop
-shared-slice-read-after-2 c = omega (arith, c .before .before .before .before .before .before .before .before .before .before .before .before .pre .1 .1 .0, c .before .before .before .before .before .before .before .before .before .before .before .before .pre .1 .1 .1)
+shared-slice-read-of-children-2 : tie.Need-shared-slice-read-of-children-2 Inv-loop μ-loop
+shared-slice-read-of-children-2 c = omega (arith, (c .before .before .before .before .before .before .before .before .before .before .pre .1 .1 .1 .0))
 
-mul-after-2 : tie.Need-mul-after-2 Inv-loop μ-loop
-mul-after-2 c = omega arith
+sub-of-children : tie.Need-sub-of-children Inv-loop μ-loop
+sub-of-children c = (c .before .before .before .if1 .left)
 
-shared-slice-read-after-3 : tie.Need-shared-slice-read-after-3 Inv-loop μ-loop
-shared-slice-read-after-3 c = omega (arith, c .before .before .before .before .before .before .before .before .before .before .before .before .before .pre .1 .1 .0, c .before .before .before .before .before .before .before .before .before .before .before .before .before .pre .1 .1 .1)
+of-children-requires-2 : tie.Need-of-children-requires-2 Inv-loop μ-loop
+of-children-requires-2 c κs = bits-left (c .before .before .before .before .before .before .before .before .before .before .args .bits) (c .before .before .before .before .before .before .before .before .before .before .args .highest) (c .before .before .before .before .before .before .before .before .before .before .pre .1 .0) _
 
-after-requires : tie.Need-after-requires Inv-loop μ-loop
-after-requires c κs =
-    let fits = faultless-fits (2 ^ c .before .before .before .before .before .before .before .before .before .before .before .before .before .args .bits) (c .before .before .before .before .before .before .before .before .before .before .before .before .before .args .highest) (c .before .before .before .before .before .before .before .before .before .before .before .before .before .args .k) (placeOf (c .before .before .before .before .before .before .before .before .before .loop .at)) ((leafAt (c .before .before .before .before .before .before .before .before .before .before .before .before .before .args .roots .now) (c .before .before .before .before .before .before .before .before .before .before .before .before .before .args .levels .now) (c .before .before .before .before .before .before .before .before .before .before .before .before .before .args .positions .now)) (c .before .before .before .before .before .before .before .before .before .loop .i)) (sym (c .before .before .before .before .leaf-fault .ensures) ∙ c .before .before .before .if1 .left) in
-    (c .before .before .before .before .before .before .before .before .before .before .before .before .before .pre .0, (c .before .before .before .before .before .before .before .before .before .before .before .before .before .pre .1 .0, (fits .0, (fits .1, omega (arith, fits .3, c .before .before .before .before .before .before .before .before .before .before .before .before .before .fits .k)))))
+mul-starts : tie.Need-mul-starts Inv-loop μ-loop
+mul-starts c = omega arith
+
+shared-slice-read-starts : tie.Need-shared-slice-read-starts Inv-loop μ-loop
+shared-slice-read-starts c = omega arith
+
+mul-starts-2 : tie.Need-mul-starts-2 Inv-loop μ-loop
+mul-starts-2 c = omega arith
+
+shared-slice-read-starts-2 : tie.Need-shared-slice-read-starts-2 Inv-loop μ-loop
+shared-slice-read-starts-2 c = omega (arith, (c .before .before .before .before .before .before .before .before .before .before .before .before .before .pre .1 .1 .1 .1))
+
+starts-requires : tie.Need-starts-requires Inv-loop μ-loop
+starts-requires c κs = omega (arith, product-is (2 ^ (c .before .before .before .before .before .before .before .before .before .before .before .before .before .args .bits)) (c .before .before .before .before .before .before .before .before .before .before .before .before .before .args .highest) _ (c .before .before .before .before .of-children .result) (c .before .before .of-children2 .result) (c .before .before .before .before .before .before .if1 .left) (c .before .before .before .before .of-children .ensures) (c .before .before .of-children2 .ensures), root-cells (c .before .before .before .before .before .before .before .before .before .before .before .before .before .args .bits) (c .before .before .before .before .before .before .before .before .before .before .before .before .before .args .highest) (c .before .before .before .before .before .before .before .before .before .before .before .before .before .pre .1 .0))
+
+stopped-requires-2 : tie.Need-stopped-requires-2 Inv-loop μ-loop
+stopped-requires-2 c κs = ((c .before .before .before .before .before .before .before .before .before .before .before .before .before .before .before .pre .0), ((c .before .before .before .before .before .before .before .before .before .before .before .before .before .before .before .pre .1 .0), ((c .before .before .before .before .before .before .before .before .before .before .before .before .before .before .before .pre .1 .1 .1 .0), ((c .before .before .before .before .before .before .before .before .before .before .before .before .before .before .before .pre .1 .1 .1 .1), λ inside none. true≢false (sym (faultless-starts (2 ^ (c .before .before .before .before .before .before .before .before .before .before .before .before .before .before .before .args .bits)) (c .before .before .before .before .before .before .before .before .before .before .before .before .before .before .before .args .highest) (c .before .before .before .before .before .before .before .before .before .before .before .before .before .before .before .args .k) (place (c .before .before .before .before .before .before .before .before .before .before .before .loop .root) (c .before .before .before .before .before .before .before .before .before .before .before .loop .cell)) ((leafAt (c .before .before .before .before .before .before .before .before .before .before .before .before .before .before .before .args .roots .now) (c .before .before .before .before .before .before .before .before .before .before .before .before .before .before .before .args .levels .now) (c .before .before .before .before .before .before .before .before .before .before .before .before .before .before .before .args .positions .now)) (c .before .before .before .before .before .before .before .before .before .before .before .loop .i)) (c .before .before .before .before .before .before .of-children .result) (c .before .before .before .before .of-children2 .result) (c .before .before .before .before .before .before .before .before .if1 .left) (c .before .before .before .before .before .before .of-children .ensures) (c .before .before .before .before .of-children2 .ensures) none) ∙ sym (c .before .starts .ensures) ∙ not-true _ (c .if2 .taken))))))
+
+returns-2 : tie.Need-returns-2 Inv-loop μ-loop
+returns-2 c = (c .stopped2 .ensures) ∙ sym (c .before .before .before .before .before .before .before .before .before .before .before .before .loop .inv .1 .1)
 
 add-i : tie.Need-add-i Inv-loop μ-loop
 add-i c = omega arith
+
+add-cell : tie.Need-add-cell Inv-loop μ-loop
+add-cell c = omega (arith, ends-le (2 ^ (c .before .before .before .before .before .before .before .before .before .before .before .before .before .before .before .args .bits)) (c .before .before .before .before .before .before .before .before .before .before .before .before .before .before .before .args .highest) (c .before .before .before .before .before .before .before .before .before .before .before .before .before .before .before .args .k) (place (c .before .before .before .before .before .before .before .before .before .before .before .loop .root) (c .before .before .before .before .before .before .before .before .before .before .before .loop .cell)) ((leafAt (c .before .before .before .before .before .before .before .before .before .before .before .before .before .before .before .args .roots .now) (c .before .before .before .before .before .before .before .before .before .before .before .before .before .before .before .args .levels .now) (c .before .before .before .before .before .before .before .before .before .before .before .before .before .before .before .args .positions .now)) (c .before .before .before .before .before .before .before .before .before .before .before .loop .i)) (c .before .before .before .before .of-children2 .result) (c .before .before .before .before .of-children2 .ensures) (starts-faultless (2 ^ (c .before .before .before .before .before .before .before .before .before .before .before .before .before .before .before .args .bits)) (c .before .before .before .before .before .before .before .before .before .before .before .before .before .before .before .args .highest) (c .before .before .before .before .before .before .before .before .before .before .before .before .before .before .before .args .k) (place (c .before .before .before .before .before .before .before .before .before .before .before .loop .root) (c .before .before .before .before .before .before .before .before .before .before .before .loop .cell)) ((leafAt (c .before .before .before .before .before .before .before .before .before .before .before .before .before .before .before .args .roots .now) (c .before .before .before .before .before .before .before .before .before .before .before .before .before .before .before .args .levels .now) (c .before .before .before .before .before .before .before .before .before .before .before .before .before .before .before .args .positions .now)) (c .before .before .before .before .before .before .before .before .before .before .before .loop .i)) (c .before .before .before .before .before .before .of-children .result) (c .before .before .before .before .of-children2 .result) (c .before .before .before .before .before .before .before .before .if1 .left) (c .before .before .before .before .before .before .of-children .ensures) (c .before .before .before .before .of-children2 .ensures) (c .before .before .before .before .before .before .before .before .before .before .before .loop .inv .1 .0) (sym (c .before .starts .ensures) ∙ not-false _ (c .if2 .left))), root-cells (c .before .before .before .before .before .before .before .before .before .before .before .before .before .before .before .args .bits) (c .before .before .before .before .before .before .before .before .before .before .before .before .before .before .before .args .highest) (c .before .before .before .before .before .before .before .before .before .before .before .before .before .before .before .pre .1 .0))
 
 loop-less : tie.Need-loop-less Inv-loop μ-loop
 loop-less c = omega arith
 
 loop-again : tie.Need-loop-again Inv-loop μ-loop
-loop-again c =
-    let none = sym (c .before .before .before .before .before .leaf-fault .ensures) ∙ c .before .before .before .before .if1 .left in
-    (omega arith, c .before .before .before .before .before .before .before .before .before .before .loop .inv .1 ∙ walk-next (2 ^ c .before .before .before .before .before .before .before .before .before .before .before .before .before .before .args .bits) (c .before .before .before .before .before .before .before .before .before .before .before .before .before .before .args .highest) (c .before .before .before .before .before .before .before .before .before .before .before .before .before .before .args .k) passed (leafAt (c .before .before .before .before .before .before .before .before .before .before .before .before .before .before .args .roots .now) (c .before .before .before .before .before .before .before .before .before .before .before .before .before .before .args .levels .now) (c .before .before .before .before .before .before .before .before .before .before .before .before .before .before .args .positions .now)) (length (c .before .before .before .before .before .before .before .before .before .before .before .before .before .before .args .roots .now)) (c .before .before .before .before .before .before .before .before .before .before .loop .i) (placeOf (c .before .before .before .before .before .before .before .before .before .before .loop .at)) (omega arith) none ∙ ap (λ (to : Place). walked (2 ^ c .before .before .before .before .before .before .before .before .before .before .before .before .before .before .args .bits) (c .before .before .before .before .before .before .before .before .before .before .before .before .before .before .args .highest) (c .before .before .before .before .before .before .before .before .before .before .before .before .before .before .args .k) (c .before .before .before .before .before .before .before .before .before .before .loop .i + 1) to (rows (leafAt (c .before .before .before .before .before .before .before .before .before .before .before .before .before .before .args .roots .now) (c .before .before .before .before .before .before .before .before .before .before .before .before .before .before .args .levels .now) (c .before .before .before .before .before .before .before .before .before .before .before .before .before .before .args .positions .now)) (c .before .before .before .before .before .before .before .before .before .before .loop .i + 1) ((length (c .before .before .before .before .before .before .before .before .before .before .before .before .before .before .args .roots .now)) - (c .before .before .before .before .before .before .before .before .before .before .loop .i + 1))) passed) (sym (c .after .ensures)))
+loop-again c = (omega arith, ((c .before .before .before .before .before .before .before .before .before .before .before .before .loop .inv .1 .0), (c .before .before .before .before .before .before .before .before .before .before .before .before .loop .inv .1 .1) ∙ walk-within (2 ^ (c .before .before .before .before .before .before .before .before .before .before .before .before .before .before .before .before .args .bits)) (c .before .before .before .before .before .before .before .before .before .before .before .before .before .before .before .before .args .highest) (c .before .before .before .before .before .before .before .before .before .before .before .before .before .before .before .before .args .k) passed (leafAt (c .before .before .before .before .before .before .before .before .before .before .before .before .before .before .before .before .args .roots .now) (c .before .before .before .before .before .before .before .before .before .before .before .before .before .before .before .before .args .levels .now) (c .before .before .before .before .before .before .before .before .before .before .before .before .before .before .before .before .args .positions .now)) (length (c .before .before .before .before .before .before .before .before .before .before .before .before .before .before .before .before .args .roots .now)) (c .before .before .before .before .before .before .before .before .before .before .before .before .loop .i) (place (c .before .before .before .before .before .before .before .before .before .before .before .before .loop .root) (c .before .before .before .before .before .before .before .before .before .before .before .before .loop .cell)) (omega arith) (starts-faultless (2 ^ (c .before .before .before .before .before .before .before .before .before .before .before .before .before .before .before .before .args .bits)) (c .before .before .before .before .before .before .before .before .before .before .before .before .before .before .before .before .args .highest) (c .before .before .before .before .before .before .before .before .before .before .before .before .before .before .before .before .args .k) (place (c .before .before .before .before .before .before .before .before .before .before .before .before .loop .root) (c .before .before .before .before .before .before .before .before .before .before .before .before .loop .cell)) ((leafAt (c .before .before .before .before .before .before .before .before .before .before .before .before .before .before .before .before .args .roots .now) (c .before .before .before .before .before .before .before .before .before .before .before .before .before .before .before .before .args .levels .now) (c .before .before .before .before .before .before .before .before .before .before .before .before .before .before .before .before .args .positions .now)) (c .before .before .before .before .before .before .before .before .before .before .before .before .loop .i)) (c .before .before .before .before .before .before .before .of-children .result) (c .before .before .before .before .before .of-children2 .result) (c .before .before .before .before .before .before .before .before .before .if1 .left) (c .before .before .before .before .before .before .before .of-children .ensures) (c .before .before .before .before .before .of-children2 .ensures) (c .before .before .before .before .before .before .before .before .before .before .before .before .loop .inv .1 .0) (sym (c .before .before .starts .ensures) ∙ not-false _ (c .before .if2 .left))) (c .before .before .before .before .before .of-children2 .result) (c .before .before .before .before .before .of-children2 .ensures) (λ e. (c .if3 .taken) (e ∙ sym (whole-root (c .before .before .before .before .before .before .before .before .before .before .before .before .before .before .before .before .args .bits) (c .before .before .before .before .before .before .before .before .before .before .before .before .before .before .before .before .args .highest) (c .before .before .before .before .before .before .before .before .before .before .before .before .before .before .before .before .pre .1 .0))))))
 
-returns-2 : tie.Need-returns-2 Inv-loop μ-loop
-returns-2 c = sym (c .before .before .before .loop .inv .1 ∙ walk-short-root (2 ^ c .before .before .before .before .before .before .before .args .bits) (c .before .before .before .before .before .before .before .args .highest) (c .before .before .before .before .before .before .before .args .k) passed (leafAt (c .before .before .before .before .before .before .before .args .roots .now) (c .before .before .before .before .before .before .before .args .levels .now) (c .before .before .before .before .before .before .before .args .positions .now)) (length (c .before .before .before .before .before .before .before .args .roots .now)) (c .before .before .before .loop .i) (placeOf (c .before .before .before .loop .at)) (omega arith) (c .if2 .taken))
+add-root : tie.Need-add-root Inv-loop μ-loop
+add-root c = omega (arith, (c .before .before .before .before .before .before .before .before .before .before .before .before .loop .inv .1 .0), (c .before .before .before .before .before .before .before .before .before .before .before .before .before .before .before .before .fits .k))
+
+stopped-requires-3 : tie.Need-stopped-requires-3 Inv-loop μ-loop
+stopped-requires-3 c κs = ((c .before .before .before .before .before .before .before .before .before .before .before .before .before .before .before .before .before .pre .0), ((c .before .before .before .before .before .before .before .before .before .before .before .before .before .before .before .before .before .pre .1 .0), ((c .before .before .before .before .before .before .before .before .before .before .before .before .before .before .before .before .before .pre .1 .1 .1 .0), ((c .before .before .before .before .before .before .before .before .before .before .before .before .before .before .before .before .before .pre .1 .1 .1 .1), λ inside none. none-after (2 ^ (c .before .before .before .before .before .before .before .before .before .before .before .before .before .before .before .before .before .args .bits)) (c .before .before .before .before .before .before .before .before .before .before .before .before .before .before .before .before .before .args .highest) (c .before .before .before .before .before .before .before .before .before .before .before .before .before .before .before .before .before .args .k) 0 ((leafAt (c .before .before .before .before .before .before .before .before .before .before .before .before .before .before .before .before .before .args .roots .now) (c .before .before .before .before .before .before .before .before .before .before .before .before .before .before .before .before .before .args .levels .now) (c .before .before .before .before .before .before .before .before .before .before .before .before .before .before .before .before .before .args .positions .now)) ((c .before .before .before .before .before .before .before .before .before .before .before .before .before .loop .i) + 1)) (rw (c .if4 .taken) at none)))))
 
 returns-3 : tie.Need-returns-3 Inv-loop μ-loop
-returns-3 c = sym (c .before .before .before .before .before .loop .inv .1 ∙ walk-short-cell (2 ^ c .before .before .before .before .before .before .before .before .before .args .bits) (c .before .before .before .before .before .before .before .before .before .args .highest) (c .before .before .before .before .before .before .before .before .before .args .k) passed (leafAt (c .before .before .before .before .before .before .before .before .before .args .roots .now) (c .before .before .before .before .before .before .before .before .before .args .levels .now) (c .before .before .before .before .before .before .before .before .before .args .positions .now)) (length (c .before .before .before .before .before .before .before .before .before .args .roots .now)) (c .before .before .before .before .before .loop .i) (placeOf (c .before .before .before .before .before .loop .at)) (omega arith) (c .before .before .if2 .left) (c .if3 .taken))
+returns-3 c = (c .stopped3 .ensures) ∙ sym ((c .before .before .before .before .before .before .before .before .before .before .before .before .before .before .loop .inv .1 .1) ∙ walk-last (2 ^ (c .before .before .before .before .before .before .before .before .before .before .before .before .before .before .before .before .before .before .args .bits)) (c .before .before .before .before .before .before .before .before .before .before .before .before .before .before .before .before .before .before .args .highest) (c .before .before .before .before .before .before .before .before .before .before .before .before .before .before .before .before .before .before .args .k) passed (leafAt (c .before .before .before .before .before .before .before .before .before .before .before .before .before .before .before .before .before .before .args .roots .now) (c .before .before .before .before .before .before .before .before .before .before .before .before .before .before .before .before .before .before .args .levels .now) (c .before .before .before .before .before .before .before .before .before .before .before .before .before .before .before .before .before .before .args .positions .now)) (length (c .before .before .before .before .before .before .before .before .before .before .before .before .before .before .before .before .before .before .args .roots .now)) (c .before .before .before .before .before .before .before .before .before .before .before .before .before .before .loop .i) (place (c .before .before .before .before .before .before .before .before .before .before .before .before .before .before .loop .root) (c .before .before .before .before .before .before .before .before .before .before .before .before .before .before .loop .cell)) (omega arith) (starts-faultless (2 ^ (c .before .before .before .before .before .before .before .before .before .before .before .before .before .before .before .before .before .before .args .bits)) (c .before .before .before .before .before .before .before .before .before .before .before .before .before .before .before .before .before .before .args .highest) (c .before .before .before .before .before .before .before .before .before .before .before .before .before .before .before .before .before .before .args .k) (place (c .before .before .before .before .before .before .before .before .before .before .before .before .before .before .loop .root) (c .before .before .before .before .before .before .before .before .before .before .before .before .before .before .loop .cell)) ((leafAt (c .before .before .before .before .before .before .before .before .before .before .before .before .before .before .before .before .before .before .args .roots .now) (c .before .before .before .before .before .before .before .before .before .before .before .before .before .before .before .before .before .before .args .levels .now) (c .before .before .before .before .before .before .before .before .before .before .before .before .before .before .before .before .before .before .args .positions .now)) (c .before .before .before .before .before .before .before .before .before .before .before .before .before .before .loop .i)) (c .before .before .before .before .before .before .before .before .before .of-children .result) (c .before .before .before .before .before .before .before .of-children2 .result) (c .before .before .before .before .before .before .before .before .before .before .before .if1 .left) (c .before .before .before .before .before .before .before .before .before .of-children .ensures) (c .before .before .before .before .before .before .before .of-children2 .ensures) (c .before .before .before .before .before .before .before .before .before .before .before .before .before .before .loop .inv .1 .0) (sym (c .before .before .before .before .starts .ensures) ∙ not-false _ (c .before .before .before .if2 .left))) (c .before .before .before .before .before .before .before .of-children2 .result) (c .before .before .before .before .before .before .before .of-children2 .ensures) ((c .before .before .if3 .left) ∙ (whole-root (c .before .before .before .before .before .before .before .before .before .before .before .before .before .before .before .before .before .before .args .bits) (c .before .before .before .before .before .before .before .before .before .before .before .before .before .before .before .before .before .before .args .highest) (c .before .before .before .before .before .before .before .before .before .before .before .before .before .before .before .before .before .before .pre .1 .0))))
+
+loop-less-2 : tie.Need-loop-less-2 Inv-loop μ-loop
+loop-less-2 c = omega arith
+
+loop-again-2 : tie.Need-loop-again-2 Inv-loop μ-loop
+loop-again-2 c =
+    let under : (c .before .before .before .before .before .before .before .before .before .before .before .before .before .loop .root) + 1 < (c .before .before .before .before .before .before .before .before .before .before .before .before .before .before .before .before .before .args .k) = omega (arith, (c .before .before .before .before .before .before .before .before .before .before .before .before .before .loop .inv .1 .0), (c .if4 .left)) in
+    (omega arith, (under, (c .before .before .before .before .before .before .before .before .before .before .before .before .before .loop .inv .1 .1) ∙ walk-last (2 ^ (c .before .before .before .before .before .before .before .before .before .before .before .before .before .before .before .before .before .args .bits)) (c .before .before .before .before .before .before .before .before .before .before .before .before .before .before .before .before .before .args .highest) (c .before .before .before .before .before .before .before .before .before .before .before .before .before .before .before .before .before .args .k) passed (leafAt (c .before .before .before .before .before .before .before .before .before .before .before .before .before .before .before .before .before .args .roots .now) (c .before .before .before .before .before .before .before .before .before .before .before .before .before .before .before .before .before .args .levels .now) (c .before .before .before .before .before .before .before .before .before .before .before .before .before .before .before .before .before .args .positions .now)) (length (c .before .before .before .before .before .before .before .before .before .before .before .before .before .before .before .before .before .args .roots .now)) (c .before .before .before .before .before .before .before .before .before .before .before .before .before .loop .i) (place (c .before .before .before .before .before .before .before .before .before .before .before .before .before .loop .root) (c .before .before .before .before .before .before .before .before .before .before .before .before .before .loop .cell)) (omega arith) (starts-faultless (2 ^ (c .before .before .before .before .before .before .before .before .before .before .before .before .before .before .before .before .before .args .bits)) (c .before .before .before .before .before .before .before .before .before .before .before .before .before .before .before .before .before .args .highest) (c .before .before .before .before .before .before .before .before .before .before .before .before .before .before .before .before .before .args .k) (place (c .before .before .before .before .before .before .before .before .before .before .before .before .before .loop .root) (c .before .before .before .before .before .before .before .before .before .before .before .before .before .loop .cell)) ((leafAt (c .before .before .before .before .before .before .before .before .before .before .before .before .before .before .before .before .before .args .roots .now) (c .before .before .before .before .before .before .before .before .before .before .before .before .before .before .before .before .before .args .levels .now) (c .before .before .before .before .before .before .before .before .before .before .before .before .before .before .before .before .before .args .positions .now)) (c .before .before .before .before .before .before .before .before .before .before .before .before .before .loop .i)) (c .before .before .before .before .before .before .before .before .of-children .result) (c .before .before .before .before .before .before .of-children2 .result) (c .before .before .before .before .before .before .before .before .before .before .if1 .left) (c .before .before .before .before .before .before .before .before .of-children .ensures) (c .before .before .before .before .before .before .of-children2 .ensures) (c .before .before .before .before .before .before .before .before .before .before .before .before .before .loop .inv .1 .0) (sym (c .before .before .before .starts .ensures) ∙ not-false _ (c .before .before .if2 .left))) (c .before .before .before .before .before .before .of-children2 .result) (c .before .before .before .before .before .before .of-children2 .ensures) ((c .before .if3 .left) ∙ (whole-root (c .before .before .before .before .before .before .before .before .before .before .before .before .before .before .before .before .before .args .bits) (c .before .before .before .before .before .before .before .before .before .before .before .before .before .before .before .before .before .args .highest) (c .before .before .before .before .before .before .before .before .before .before .before .before .before .before .before .before .before .pre .1 .0)))))
+
+stopped-requires-4 : tie.Need-stopped-requires-4 Inv-loop μ-loop
+stopped-requires-4 c κs = ((c .before .before .before .before .before .pre .0), ((c .before .before .before .before .before .pre .1 .0), ((c .before .before .before .before .before .pre .1 .1 .1 .0), ((c .before .before .before .before .before .pre .1 .1 .1 .1), λ inside none. omega arith))))
 
 returns-4 : tie.Need-returns-4 Inv-loop μ-loop
-returns-4 c = sym (c .before .before .before .before .before .loop .inv .1 ∙ walk-full (2 ^ c .before .before .before .before .before .before .before .before .before .args .bits) (c .before .before .before .before .before .before .before .before .before .args .highest) (c .before .before .before .before .before .before .before .before .before .args .k) passed (leafAt (c .before .before .before .before .before .before .before .before .before .args .roots .now) (c .before .before .before .before .before .before .before .before .before .args .levels .now) (c .before .before .before .before .before .before .before .before .before .args .positions .now)) (length (c .before .before .before .before .before .before .before .before .before .args .roots .now)) (c .before .before .before .before .before .loop .i) (placeOf (c .before .before .before .before .before .loop .at)) (omega arith) (c .before .before .if2 .left) (c .if3 .left))
+returns-4 c = (c .stopped4 .ensures) ∙ sym (c .before .before .loop .inv .1 .1)
 
 pub walk-spec : {M : Type 1} → statement M
 walk-spec =
@@ -93,23 +118,33 @@ walk-spec =
     (tie.spec
     Inv-loop
     μ-loop
+    mul-whole
+    cast-whole
+    shl-whole
     loop-holds
-    mul-leaf-fault
-    shared-slice-read-leaf-fault
-    shared-slice-read-leaf-fault-2
-    mul-leaf-fault-2
-    shared-slice-read-leaf-fault-3
-    leaf-fault-requires
+    shared-slice-read-if1
+    stopped-requires
     returns
-    mul-after
-    shared-slice-read-after
-    shared-slice-read-after-2
-    mul-after-2
-    shared-slice-read-after-3
-    after-requires
+    shared-slice-read-of-children
+    of-children-requires
+    shared-slice-read-of-children-2
+    sub-of-children
+    of-children-requires-2
+    mul-starts
+    shared-slice-read-starts
+    mul-starts-2
+    shared-slice-read-starts-2
+    starts-requires
+    stopped-requires-2
+    returns-2
     add-i
+    add-cell
     loop-less
     loop-again
-    returns-2
+    add-root
+    stopped-requires-3
     returns-3
+    loop-less-2
+    loop-again-2
+    stopped-requires-4
     returns-4)
