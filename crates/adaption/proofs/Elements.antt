@@ -1,10 +1,10 @@
 -- A leaf's child, parent and family are the element's: the element at a position is the child, by the last digit, of the element at the
 -- position without it. Assumes nothing.
-use mathlib.Core.Path.{_≡_, refl, ap, ap₂, _∙_, sym, subst, subst⁻¹}
-use mathlib.Core.Bool.{Bool, true, and-eq-true-iff, _&&_}
+use mathlib.Core.Path.{_≡_, refl, ap, ap₂, _∙_, sym, subst}
+use mathlib.Core.Bool.{true, and-eq-true-iff, _&&_}
 use mathlib.Core.List.{List, _∷_}
-use Prim.Native.Nat.{ℕ, zero, suc, _+_, _-_, _*_, _/_, _%_, _^_, _≤_, _<_}
-use native.Mathlib.Nat.{add-zero, zero-add, suc-add, add-suc, mul-comm, mul-add-mod-self-left, mod-eq-of-lt, mod-lt, div-lt-iff-lt-mul, pow-suc}
+use Prim.Native.Nat.{ℕ, zero, suc, _+_, _-_, _*_, _/_, _%_, _^_, _<_}
+use native.Mathlib.Nat.{mul-comm, mul-add-mod-self-left, mod-eq-of-lt, mod-lt, div-lt-iff-lt-mul, pow-suc}
 use native.Mathlib.Numerals.{add-one}
 use native.Mathlib.Omega.{arith}
 use lib.Dec.{leb, ltb}
@@ -12,11 +12,11 @@ use lib.ListN.{length}
 use borrow.Author.Tests.{ltb-true, leb-true}
 use Rattle.paper.specs.Outcome.{rows}
 use Rattle.tree.specs.Shape.{Shape}
-use Rattle.tree.specs.Laws.{Sound, Lawful, childrenOf}
+use Rattle.tree.specs.Laws.{Sound, Lawful}
 use Rattle.tree.proofs.RoundTrip.{round-trips}
 use Rattle.tree.proofs.Family.{families}
 use Rattle.tree.specs.Words as words
-use Rattle.leaves.specs.Leaves.{Leaf, leaf}
+use Rattle.leaves.specs.Leaves.{Leaf}
 use Rattle.leaves.specs.Laws.{at}
 use Rattle.leaves.proofs.Span.{quotient}
 use Rattle.adaption.specs.Adaption.{every, same, child, parent, family}

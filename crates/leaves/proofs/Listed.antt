@@ -2,7 +2,7 @@
 use mathlib.Core.Path.{_≡_, ap, _∙_, sym}
 use mathlib.Core.Bool.{Bool, true, false, not, _&&_, _||_, and-eq-true-iff}
 use mathlib.Core.List.{List}
-use Prim.Native.Nat.{ℕ, zero, suc, _+_, _≤_, _<_}
+use Prim.Native.Nat.{ℕ, zero, suc, _+_, _<_}
 use native.Mathlib.Nat.{add-zero, add-suc, suc-add, zero-add}
 use native.Mathlib.Omega.{arith}
 use lib.Dec.{ltb, eqb}
@@ -11,7 +11,7 @@ use borrow.Author.Tests.{ltb-false, eqb-true, eqb-false, not-false, le-ltb, eq-e
 use Rattle.paper.specs.Outcome.{Outcome, accepted, refused, passed, rows}
 use Rattle.paper.proofs.Tests.{refused-by, passed-by, or-none}
 use Rattle.paper.proofs.Scan.{accepted-of, accepted-by, carry, rows-length}
-use Rattle.leaves.specs.Leaves.{leaf, leafAt, leaves, place, Valid}
+use Rattle.leaves.specs.Leaves.{leaf, leafAt, leaves, place}
 use Rattle.leaves.specs.Calls.{limit, outOfRange, equalColumns, walked, listed}
 use Rattle.leaves.specs.Laws.{at, ValidList}
 use Rattle.leaves.proofs.Check.{exactly, walked-passed, walked-accepted, walked-refused}

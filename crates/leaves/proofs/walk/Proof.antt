@@ -93,7 +93,7 @@ add-root : tie.Need-add-root Inv-loop μ-loop
 add-root c = omega (arith, (c .before .before .before .before .before .before .before .before .before .before .before .before .loop .inv .1 .0), (c .before .before .before .before .before .before .before .before .before .before .before .before .before .before .before .before .fits .k))
 
 stopped-requires-3 : tie.Need-stopped-requires-3 Inv-loop μ-loop
-stopped-requires-3 c κs = ((c .before .before .before .before .before .before .before .before .before .before .before .before .before .before .before .before .before .pre .0), ((c .before .before .before .before .before .before .before .before .before .before .before .before .before .before .before .before .before .pre .1 .0), ((c .before .before .before .before .before .before .before .before .before .before .before .before .before .before .before .before .before .pre .1 .1 .1 .0), ((c .before .before .before .before .before .before .before .before .before .before .before .before .before .before .before .before .before .pre .1 .1 .1 .1), λ inside none. none-after (2 ^ (c .before .before .before .before .before .before .before .before .before .before .before .before .before .before .before .before .before .args .bits)) (c .before .before .before .before .before .before .before .before .before .before .before .before .before .before .before .before .before .args .highest) (c .before .before .before .before .before .before .before .before .before .before .before .before .before .before .before .before .before .args .k) 0 ((leafAt (c .before .before .before .before .before .before .before .before .before .before .before .before .before .before .before .before .before .args .roots .now) (c .before .before .before .before .before .before .before .before .before .before .before .before .before .before .before .before .before .args .levels .now) (c .before .before .before .before .before .before .before .before .before .before .before .before .before .before .before .before .before .args .positions .now)) ((c .before .before .before .before .before .before .before .before .before .before .before .before .before .loop .i) + 1)) (rw (c .if4 .taken) at none)))))
+stopped-requires-3 c κs = ((c .before .before .before .before .before .before .before .before .before .before .before .before .before .before .before .before .before .pre .0), ((c .before .before .before .before .before .before .before .before .before .before .before .before .before .before .before .before .before .pre .1 .0), ((c .before .before .before .before .before .before .before .before .before .before .before .before .before .before .before .before .before .pre .1 .1 .1 .0), ((c .before .before .before .before .before .before .before .before .before .before .before .before .before .before .before .before .before .pre .1 .1 .1 .1), λ inside none. none-after (2 ^ (c .before .before .before .before .before .before .before .before .before .before .before .before .before .before .before .before .before .args .bits)) (c .before .before .before .before .before .before .before .before .before .before .before .before .before .before .before .before .before .args .highest) (c .before .before .before .before .before .before .before .before .before .before .before .before .before .before .before .before .before .args .k) _ ((leafAt (c .before .before .before .before .before .before .before .before .before .before .before .before .before .before .before .before .before .args .roots .now) (c .before .before .before .before .before .before .before .before .before .before .before .before .before .before .before .before .before .args .levels .now) (c .before .before .before .before .before .before .before .before .before .before .before .before .before .before .before .before .before .args .positions .now)) ((c .before .before .before .before .before .before .before .before .before .before .before .before .before .loop .i) + 1)) (rw (c .if4 .taken) at none)))))
 
 returns-3 : tie.Need-returns-3 Inv-loop μ-loop
 returns-3 c = (c .stopped3 .ensures) ∙ sym ((c .before .before .before .before .before .before .before .before .before .before .before .before .before .before .loop .inv .1 .1) ∙ walk-last (2 ^ (c .before .before .before .before .before .before .before .before .before .before .before .before .before .before .before .before .before .before .args .bits)) (c .before .before .before .before .before .before .before .before .before .before .before .before .before .before .before .before .before .before .args .highest) (c .before .before .before .before .before .before .before .before .before .before .before .before .before .before .before .before .before .before .args .k) passed (leafAt (c .before .before .before .before .before .before .before .before .before .before .before .before .before .before .before .before .before .before .args .roots .now) (c .before .before .before .before .before .before .before .before .before .before .before .before .before .before .before .before .before .before .args .levels .now) (c .before .before .before .before .before .before .before .before .before .before .before .before .before .before .before .before .before .before .args .positions .now)) (length (c .before .before .before .before .before .before .before .before .before .before .before .before .before .before .before .before .before .before .args .roots .now)) (c .before .before .before .before .before .before .before .before .before .before .before .before .before .before .loop .i) (place (c .before .before .before .before .before .before .before .before .before .before .before .before .before .before .loop .root) (c .before .before .before .before .before .before .before .before .before .before .before .before .before .before .loop .cell)) (omega arith) (starts-faultless (2 ^ (c .before .before .before .before .before .before .before .before .before .before .before .before .before .before .before .before .before .before .args .bits)) (c .before .before .before .before .before .before .before .before .before .before .before .before .before .before .before .before .before .before .args .highest) (c .before .before .before .before .before .before .before .before .before .before .before .before .before .before .before .before .before .before .args .k) (place (c .before .before .before .before .before .before .before .before .before .before .before .before .before .before .loop .root) (c .before .before .before .before .before .before .before .before .before .before .before .before .before .before .loop .cell)) ((leafAt (c .before .before .before .before .before .before .before .before .before .before .before .before .before .before .before .before .before .before .args .roots .now) (c .before .before .before .before .before .before .before .before .before .before .before .before .before .before .before .before .before .before .args .levels .now) (c .before .before .before .before .before .before .before .before .before .before .before .before .before .before .before .before .before .before .args .positions .now)) (c .before .before .before .before .before .before .before .before .before .before .before .before .before .before .loop .i)) (c .before .before .before .before .before .before .before .before .before .of-children .result) (c .before .before .before .before .before .before .before .of-children2 .result) (c .before .before .before .before .before .before .before .before .before .before .before .if1 .left) (c .before .before .before .before .before .before .before .before .before .of-children .ensures) (c .before .before .before .before .before .before .before .of-children2 .ensures) (c .before .before .before .before .before .before .before .before .before .before .before .before .before .before .loop .inv .1 .0) (sym (c .before .before .before .before .starts .ensures) ∙ not-false _ (c .before .before .before .if2 .left))) (c .before .before .before .before .before .before .before .of-children2 .result) (c .before .before .before .before .before .before .before .of-children2 .ensures) ((c .before .before .if3 .left) ∙ (whole-root (c .before .before .before .before .before .before .before .before .before .before .before .before .before .before .before .before .before .before .args .bits) (c .before .before .before .before .before .before .before .before .before .before .before .before .before .before .before .before .before .before .args .highest) (c .before .before .before .before .before .before .before .before .before .before .before .before .before .before .before .before .before .before .pre .1 .0))))
