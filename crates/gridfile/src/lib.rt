@@ -1,0 +1,8 @@
+// The grid file: a leaf list as bytes. Its numbers are groups of seven bits.
+mod number;
+
+// A number that was read: its value and the offset of what follows it, or the refusal's number and place.
+pub enum NumberRead {
+    Is(u32, usize),
+    Refused(u8, u64),
+}
