@@ -18,8 +18,10 @@ pub fn spoil(r: &mut Random, fault: u64, roots: &mut u16, leaves: &mut Leaves) -
         _ => r.below(n as u64) as usize,
     };
     let (number, place) = match fault {
-        0..=6 => spoil_list(r, fault, *roots, leaves, i)?,
-        7..=13 => spoil_leaf(r, fault, *roots, leaves, i)?,
+        0..=3 => spoil_order(r, fault, leaves, i)?,
+        4..=6 => spoil_length(r, fault, *roots, leaves),
+        7..=11 => spoil_leaf(r, fault, *roots, leaves, i)?,
+        12..=13 => spoil_relation(r, fault, leaves, i)?,
         _ => spoil_roots(r, fault, roots, leaves),
     };
     if leaves.len() > MOST_LEAVES {
@@ -28,8 +30,8 @@ pub fn spoil(r: &mut Random, fault: u64, roots: &mut u16, leaves: &mut Leaves) -
     Some(Refusal { number, place: place as u64 })
 }
 
-/// Leaves too many, too few or in another order, the one at `i` among them.
-fn spoil_list(r: &mut Random, fault: u64, roots: u16, leaves: &mut Leaves, i: usize) -> Option<(u8, usize)> {
+/// A leaf too many, too few or out of order, the one at `i`.
+fn spoil_order(r: &mut Random, fault: u64, leaves: &mut Leaves, i: usize) -> Option<(u8, usize)> {
     let n = leaves.len();
     Some(match fault {
         // Cut.
@@ -53,6 +55,14 @@ fn spoil_list(r: &mut Random, fault: u64, roots: u16, leaves: &mut Leaves, i: us
             leaves.swap(i, i + 1);
             (12, i)
         }
+        _ => return None,
+    })
+}
+
+/// The columns' lengths.
+fn spoil_length(r: &mut Random, fault: u64, roots: u16, leaves: &mut Leaves) -> (u8, usize) {
+    let n = leaves.len();
+    match fault {
         // A leaf after the last.
         4 => {
             let (extra, number) = r.pick(&[((roots, 0, 0), 12), ((0, 0, 0), 12), ((0, 22, 0), 1), ((roots, 2, 64), 5)]);
@@ -65,12 +75,11 @@ fn spoil_list(r: &mut Random, fault: u64, roots: u16, leaves: &mut Leaves, i: us
             (11, 0)
         }
         // No leaf.
-        6 => {
+        _ => {
             leaves.resize([0; 3]);
             (11, 0)
         }
-        _ => return None,
-    })
+    }
 }
 
 /// The leaf at `i`: its root, level or position.
@@ -107,7 +116,14 @@ fn spoil_leaf(r: &mut Random, fault: u64, roots: u16, leaves: &mut Leaves, i: us
             leaves.position[i] = r.pick(&[limit, limit, limit + position, 1 << 63 | position, u64::MAX, u64::MAX]);
             (5, i)
         }
-        // A child or the parent in its place.
+        _ => return None,
+    })
+}
+
+/// A child or the parent in the place of the leaf at `i`.
+fn spoil_relation(r: &mut Random, fault: u64, leaves: &mut Leaves, i: usize) -> Option<(u8, usize)> {
+    let (_, level, position) = leaves.get(i);
+    Some(match fault {
         12 if level < HIGHEST_LEVEL => {
             let child = r.below(8);
             (leaves.level[i], leaves.position[i]) = (level + 1, 8 * position + child);
