@@ -1,3 +1,5 @@
 pub mod Cases
 pub mod Storing
 pub mod Coded
+pub mod Runs
+pub mod ReadBack

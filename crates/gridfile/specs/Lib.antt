@@ -1,3 +1,5 @@
 pub mod Numbers
 pub mod Readings
+pub mod File
+pub mod Reading
 pub mod Laws

@@ -38,7 +38,7 @@ runsOf (v ∷ vs) = joinRun (v .level) (runsOf vs)
 
 unfoldable pub runBytes : List Run → List ℕ
 runBytes [] = []
-runBytes (r ∷ rs) = bytesOf (r .level) ++ bytesOf (r .count) ++ runBytes rs
+runBytes (r ∷ rs) = bytesOf (r .level) ++ (bytesOf (r .count) ++ runBytes rs)
 
 abbrev pub fileOf : ℕ → List Leaf → List ℕ
-fileOf K vs = tag ++ bytesOf K ++ bytesOf (length (runsOf vs)) ++ runBytes (runsOf vs)
+fileOf K vs = tag ++ (bytesOf K ++ (bytesOf (length (runsOf vs)) ++ runBytes (runsOf vs)))

@@ -20,7 +20,7 @@ use mathlib.Core.Bool.{Bool, true, not, _&&_, _||_}
 use mathlib.Core.List.{List, [], _∷_, _++_}
 use Prim.Native.Nat.{ℕ, zero, suc, _+_, _/_, _%_}
 use lib.Dec.{ltb, eqb}
-use lib.ListN.{length, take}
+use lib.ListN.{length}
 use Rattle.paper.specs.Outcome.{Outcome, accepted, refused, refuse-when, refuse-when-at, mapped}
 use Rattle.leaves.specs.Leaves.{Leaf, leaf, Place, place, span, endOf}
 use Rattle.leaves.specs.Calls.{limit, outOfRange}

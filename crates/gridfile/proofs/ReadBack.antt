@@ -1,0 +1,150 @@
+-- A list's file is read as the list: its numbers are read one after the other, and the runs give its leaves. Assumes nothing.
+use mathlib.Core.Path.{_≡_, refl, ap, _∙_, sym}
+use mathlib.Core.Bool.{true, not, _||_}
+use mathlib.Core.List.{List, [], _∷_, _++_, append-assoc}
+use Prim.Native.Nat.{ℕ, suc, _+_, _≤_, _<_}
+use native.Mathlib.Omega.{arith}
+use lib.Dec.{ltb, eqb}
+use lib.ListN.{length, length-append}
+use borrow.Author.Tests.{le-ltb, eq-eqb, ne-eqb}
+use Rattle.paper.specs.Outcome.{Outcome, accepted, refused, refuse-when-at, mapped}
+use Rattle.leaves.specs.Leaves.{Leaf, Place, place, Covers, Valid}
+use Rattle.leaves.specs.Calls.{limit, outOfRange}
+use Rattle.gridfile.specs.Numbers.{highest, bytesOf, Read, read, numberAt}
+use Rattle.gridfile.specs.File.{Run, runsOf, runBytes, fileOf, tag}
+use Rattle.gridfile.specs.Reading.{and-then, Grid, fits, leavesOf, after, runsAt, gridAt}
+use Rattle.gridfile.specs.Laws.{Written}
+use Rattle.gridfile.proofs.Coded.{codec}
+use Rattle.gridfile.proofs.Runs.{Reads, Differs, reads-of, leaves-count, runs-few, runs-some}
+
+module _ (n L K : ℕ) (bs : List ℕ) where
+  -- ---- one run, as the definition takes it apart
+  abbrev countStep : ℕ → ℕ → Place → ℕ → Read → Read → Outcome (List Leaf)
+  countStep R i c N l k =
+      refuse-when-at (eqb (k .value) 0) 21 (l .next)
+      (refuse-when-at (ltb limit (N + k .value)) 15 (l .next)
+      (refuse-when-at (not (fits n L K c (l .value) (k .value))) 12 i
+      (mapped (λ (vs : List Leaf). leavesOf n L c (l .value) (k .value) ++ vs)
+      (runsAt n L bs K R (k .next) (l .value) (after n L c (l .value) (k .value)) (N + k .value)))))
+
+  abbrev levelStep : ℕ → ℕ → ℕ → Place → ℕ → Read → Outcome (List Leaf)
+  levelStep R i before c N l =
+      refuse-when-at (ltb L (l .value)) 1 i
+      (refuse-when-at (eqb before (l .value)) 21 i
+      (and-then (numberAt bs (l .next)) (countStep R i c N l)))
+
+  apart : (R i before : ℕ) (c : Place) (N : ℕ) → runsAt n L bs K (suc R) i before c N ≡ and-then (numberAt bs i) (levelStep R i before c N)
+  unfolding runsAt
+  apart R i before c N = refl
+
+  one-run : (R i before : ℕ) (c : Place) (N : ℕ) (l k : Read) → numberAt bs i ≡ accepted l → numberAt bs (l .next) ≡ accepted k
+      → l .value ≤ L → (before ≡ l .value → ⊥) → 0 < k .value → N + k .value ≤ limit → fits n L K c (l .value) (k .value) ≡ true
+      → runsAt n L bs K (suc R) i before c N ≡ mapped (λ (vs : List Leaf). leavesOf n L c (l .value) (k .value) ++ vs)
+      (runsAt n L bs K R (k .next) (l .value) (after n L c (l .value) (k .value)) (N + k .value))
+  one-run R i before c N l k level count shallow other some few fit =
+      apart R i before c N
+      ∙ ap (λ (o : Outcome Read). and-then o (levelStep R i before c N)) level
+      ∙ simp (le-ltb L (l .value) shallow, ne-eqb before (l .value) other)
+      (ap (λ (o : Outcome Read). and-then o (countStep R i c N l)) count
+      ∙ simp (ne-eqb (k .value) 0 (λ none. omega arith), le-ltb limit (N + k .value) few, fit))
+
+  no-run : (i before : ℕ) (c : Place) (N : ℕ) → c ≡ place K 0 → length bs ≤ i → runsAt n L bs K 0 i before c N ≡ accepted []
+  unfolding runsAt
+  no-run i before c N full past =
+      simp (
+        eq-eqb (c .root) K (ap (λ (p : Place). p .root) full),
+        eq-eqb (c .cell) 0 (ap (λ (p : Place). p .cell) full),
+        le-ltb i (length bs) past,
+      )
+
+  -- ---- all runs
+  runs-read : (positive : 0 < n) → L ≤ highest → (rs : List Run) (vs : List Leaf) (pre : List ℕ) (before : ℕ) (c : Place) (N : ℕ)
+      → bs ≡ pre ++ runBytes rs → Differs n L K positive before rs → N + length vs ≤ limit → Reads n L K positive c rs vs
+      → runsAt n L bs K (length rs) (length pre) before c N ≡ accepted vs
+  unfolding Reads runBytes
+  runs-read positive low [] vs pre before c N whole other few f =
+      let long : length bs ≡ length pre + 0 = ap length whole ∙ length-append pre [] in
+      no-run (length pre) before c N (f .1) (omega arith) ∙ ap accepted (sym (f .0))
+  runs-read positive low (r ∷ rs) vs pre before c N whole other few f =
+      let l = r .level in
+      let k = r .count in
+      let rest = f .4 .0 in
+      let split : length vs ≡ k + length rest = ap length (f .4 .1 .0) ∙ length-append (leavesOf n L c l k) rest ∙ ap (λ (m : ℕ). m + length rest) (leaves-count n L c l k) in
+      let pre1 = pre ++ bytesOf l in
+      let pre2 = pre1 ++ bytesOf k in
+      let whole1 : bs ≡ pre1 ++ (bytesOf k ++ runBytes rs) = whole ∙ sym (append-assoc pre (bytesOf l) (bytesOf k ++ runBytes rs)) in
+      let whole2 : bs ≡ pre2 ++ runBytes rs = whole1 ∙ sym (append-assoc pre1 (bytesOf k) (runBytes rs)) in
+      let level : numberAt bs (length pre) ≡ accepted (read l (length pre + length (bytesOf l))) =
+      ap (λ (b : List ℕ). numberAt b (length pre)) whole ∙ codec .read-written pre (bytesOf k ++ runBytes rs) l (omega (arith, f .0)) in
+      let count : numberAt bs (length pre + length (bytesOf l)) ≡ accepted (read k (length pre1 + length (bytesOf k))) =
+      ap (numberAt bs) (sym (length-append pre (bytesOf l))) ∙ ap (λ (b : List ℕ). numberAt b (length pre1)) whole1 ∙ codec .read-written pre1 (runBytes rs) k (omega arith) in
+      one-run (length rs) (length pre) before c N (read l (length pre + length (bytesOf l))) (read k (length pre1 + length (bytesOf k))) level count (f .0) other (f .1) (omega arith) (f .2)
+      ∙ ap (mapped (λ (us : List Leaf). leavesOf n L c l k ++ us))
+      (ap (λ (i : ℕ). runsAt n L bs K (length rs) i l (after n L c l k) (N + k)) (sym (length-append pre1 (bytesOf k)))
+      ∙ runs-read positive low rs rest pre2 l (after n L c l k) (N + k) whole2 (f .3) (omega arith) (f .4 .1 .1))
+      ∙ ap accepted (sym (f .4 .1 .0))
+
+-- the grid of an accepted outcome
+abbrev gridOr : Grid → Outcome Grid → Grid
+gridOr g (accepted a) = a
+gridOr g (refused number at) = g
+
+-- the leaves of one root at least are some
+some-leaf : (n L K : ℕ) (vs : List Leaf) → 0 < K → Valid n L K vs → 0 < length vs
+unfolding Covers
+some-leaf n L K [] some valid = absurd (let none : 0 ≡ K = ap (λ (p : Place). p .root) valid in omega arith)
+some-leaf n L K (v ∷ vs) some valid = omega arith
+
+-- the first run is of a level
+first-differs : (n L K : ℕ) (positive : 0 < n) (c : Place) (rs : List Run) (vs : List Leaf) → Reads n L K positive c rs vs → Differs n L K positive (suc L) rs
+unfolding Reads
+first-differs n L K positive c [] vs f = tt
+first-differs n L K positive c (r ∷ rs) vs f = λ same. omega (arith, f .0)
+
+module _ (n L : ℕ) (positive : 0 < n) (low : L ≤ highest) where
+  abbrev runsStep : List ℕ → Read → Read → Outcome Grid
+  runsStep bs k r =
+      refuse-when-at (eqb (r .value) 0 || ltb limit (r .value)) 21 (k .next)
+      (mapped (λ (vs : List Leaf). record { roots = k .value; leaves = vs }) (runsAt n L bs (k .value) (r .value) (r .next) (suc L) (place 0 0) 0))
+
+  abbrev rootsStep : List ℕ → Read → Outcome Grid
+  rootsStep bs k = refuse-when-at (outOfRange (k .value)) 17 4 (and-then (numberAt bs (k .next)) (runsStep bs k))
+
+  opened : (rest : List ℕ) → gridAt n L (tag ++ rest) ≡ and-then (numberAt (tag ++ rest) 4) (rootsStep (tag ++ rest))
+  opened rest = simp (le-ltb (length (tag ++ rest)) 4 (omega arith))
+
+  read-back : (K : ℕ) (vs : List Leaf) → 0 < K → K ≤ 4096 → length vs ≤ limit → Valid n L K vs → gridAt n L (fileOf K vs) ≡ accepted (record { roots = K; leaves = vs })
+  read-back K vs some few short valid =
+      let rs = runsOf vs in
+      let R = length rs in
+      let bs = fileOf K vs in
+      let pre1 = tag ++ bytesOf K in
+      let pre2 = pre1 ++ bytesOf R in
+      let whole1 : bs ≡ pre1 ++ (bytesOf R ++ runBytes rs) = sym (append-assoc tag (bytesOf K) (bytesOf R ++ runBytes rs)) in
+      let whole2 : bs ≡ pre2 ++ runBytes rs = whole1 ∙ sym (append-assoc pre1 (bytesOf R) (runBytes rs)) in
+      let fewer = runs-few vs in
+      let roots : numberAt bs 4 ≡ accepted (read K (4 + length (bytesOf K))) = codec .read-written tag (bytesOf R ++ runBytes rs) K (omega arith) in
+      let runs : numberAt bs (4 + length (bytesOf K)) ≡ accepted (read R (length pre1 + length (bytesOf R))) =
+      ap (numberAt bs) (sym (length-append tag (bytesOf K))) ∙ ap (λ (b : List ℕ). numberAt b (length pre1)) whole1 ∙ codec .read-written pre1 (runBytes rs) R (omega arith) in
+      let f = reads-of n L K positive (place 0 0) vs valid in
+      let some-run = runs-some vs (some-leaf n L K vs some valid) in
+      opened (bytesOf K ++ (bytesOf R ++ runBytes rs))
+      ∙ ap (λ (o : Outcome Read). and-then o (rootsStep bs)) roots
+      ∙ simp (ne-eqb K 0 (λ none. omega arith), le-ltb 4096 K few)
+      (ap (λ (o : Outcome Read). and-then o (runsStep bs (read K (4 + length (bytesOf K))))) runs
+      ∙ simp (ne-eqb R 0 (λ none. omega arith), le-ltb limit R (omega arith))
+      (ap (mapped (λ (us : List Leaf). record { roots = K; leaves = us }))
+      (ap (λ (i : ℕ). runsAt n L bs K R i (suc L) (place 0 0) 0) (sym (length-append pre1 (bytesOf R)))
+      ∙ runs-read n L K bs positive low rs vs pre2 (suc L) (place 0 0) 0 whole2 (first-differs n L K positive (place 0 0) rs vs f) (omega arith) f)))
+
+  pub written : Written n L
+  written = record { read-back = read-back; one-file = one-file }
+    where
+      accepted-once : (a b : Grid) → _≡_ {A = Outcome Grid} (accepted a) (accepted b) → a ≡ b
+      accepted-once a b e = ap (gridOr a) e
+
+      one-file : (K K′ : ℕ) (vs vs′ : List Leaf) → 0 < K → K ≤ 4096 → length vs ≤ limit → Valid n L K vs → 0 < K′ → K′ ≤ 4096 → length vs′ ≤ limit → Valid n L K′ vs′
+          → fileOf K vs ≡ fileOf K′ vs′ → (K ≡ K′) × (vs ≡ vs′)
+      one-file K K′ vs vs′ some few short valid some′ few′ short′ valid′ same =
+          let grids = accepted-once _ _ (sym (read-back K vs some few short valid) ∙ ap (gridAt n L) same ∙ read-back K′ vs′ some′ few′ short′ valid′) in
+          (ap (λ (g : Grid). g .roots) grids, ap (λ (g : Grid). g .leaves) grids)
