@@ -3,3 +3,6 @@ pub mod Storing
 pub mod Coded
 pub mod Runs
 pub mod ReadBack
+pub mod Fitting
+pub mod Accepting
+pub mod OneFile

@@ -7,19 +7,18 @@ use native.Mathlib.Omega.{arith}
 use lib.Dec.{ltb, eqb}
 use lib.ListN.{length, length-append}
 use borrow.Author.Tests.{le-ltb, eq-eqb, ne-eqb}
-use Rattle.paper.specs.Outcome.{Outcome, accepted, refused, refuse-when-at, mapped}
+use Rattle.paper.specs.Outcome.{Outcome, accepted, refuse-when-at, mapped}
 use Rattle.leaves.specs.Leaves.{Leaf, Place, place, Covers, Valid}
 use Rattle.leaves.specs.Calls.{limit, outOfRange}
 use Rattle.gridfile.specs.Numbers.{highest, bytesOf, Read, read, numberAt}
 use Rattle.gridfile.specs.File.{Run, runsOf, runBytes, fileOf, tag}
 use Rattle.gridfile.specs.Reading.{and-then, Grid, fits, leavesOf, after, runsAt, gridAt}
-use Rattle.gridfile.specs.Laws.{Written}
 use Rattle.gridfile.proofs.Coded.{codec}
 use Rattle.gridfile.proofs.Runs.{Reads, Differs, reads-of, leaves-count, runs-few, runs-some}
 
 module _ (n L K : ℕ) (bs : List ℕ) where
   -- ---- one run, as the definition takes it apart
-  abbrev countStep : ℕ → ℕ → Place → ℕ → Read → Read → Outcome (List Leaf)
+  abbrev pub countStep : ℕ → ℕ → Place → ℕ → Read → Read → Outcome (List Leaf)
   countStep R i c N l k =
       refuse-when-at (eqb (k .value) 0) 21 (l .next)
       (refuse-when-at (ltb limit (N + k .value)) 15 (l .next)
@@ -27,13 +26,13 @@ module _ (n L K : ℕ) (bs : List ℕ) where
       (mapped (λ (vs : List Leaf). leavesOf n L c (l .value) (k .value) ++ vs)
       (runsAt n L bs K R (k .next) (l .value) (after n L c (l .value) (k .value)) (N + k .value)))))
 
-  abbrev levelStep : ℕ → ℕ → ℕ → Place → ℕ → Read → Outcome (List Leaf)
+  abbrev pub levelStep : ℕ → ℕ → ℕ → Place → ℕ → Read → Outcome (List Leaf)
   levelStep R i before c N l =
       refuse-when-at (ltb L (l .value)) 1 i
       (refuse-when-at (eqb before (l .value)) 21 i
       (and-then (numberAt bs (l .next)) (countStep R i c N l)))
 
-  apart : (R i before : ℕ) (c : Place) (N : ℕ) → runsAt n L bs K (suc R) i before c N ≡ and-then (numberAt bs i) (levelStep R i before c N)
+  pub apart : (R i before : ℕ) (c : Place) (N : ℕ) → runsAt n L bs K (suc R) i before c N ≡ and-then (numberAt bs i) (levelStep R i before c N)
   unfolding runsAt
   apart R i before c N = refl
 
@@ -59,7 +58,7 @@ module _ (n L K : ℕ) (bs : List ℕ) where
 
   -- ---- all runs
   runs-read : (positive : 0 < n) → L ≤ highest → (rs : List Run) (vs : List Leaf) (pre : List ℕ) (before : ℕ) (c : Place) (N : ℕ)
-      → bs ≡ pre ++ runBytes rs → Differs n L K positive before rs → N + length vs ≤ limit → Reads n L K positive c rs vs
+      → bs ≡ pre ++ runBytes rs → Differs before rs → N + length vs ≤ limit → Reads n L K positive c rs vs
       → runsAt n L bs K (length rs) (length pre) before c N ≡ accepted vs
   unfolding Reads runBytes
   runs-read positive low [] vs pre before c N whole other few f =
@@ -84,11 +83,6 @@ module _ (n L K : ℕ) (bs : List ℕ) where
       ∙ runs-read positive low rs rest pre2 l (after n L c l k) (N + k) whole2 (f .3) (omega arith) (f .4 .1 .1))
       ∙ ap accepted (sym (f .4 .1 .0))
 
--- the grid of an accepted outcome
-abbrev gridOr : Grid → Outcome Grid → Grid
-gridOr g (accepted a) = a
-gridOr g (refused number at) = g
-
 -- the leaves of one root at least are some
 some-leaf : (n L K : ℕ) (vs : List Leaf) → 0 < K → Valid n L K vs → 0 < length vs
 unfolding Covers
@@ -96,24 +90,24 @@ some-leaf n L K [] some valid = absurd (let none : 0 ≡ K = ap (λ (p : Place).
 some-leaf n L K (v ∷ vs) some valid = omega arith
 
 -- the first run is of a level
-first-differs : (n L K : ℕ) (positive : 0 < n) (c : Place) (rs : List Run) (vs : List Leaf) → Reads n L K positive c rs vs → Differs n L K positive (suc L) rs
+first-differs : (n L K : ℕ) (positive : 0 < n) (c : Place) (rs : List Run) (vs : List Leaf) → Reads n L K positive c rs vs → Differs (suc L) rs
 unfolding Reads
 first-differs n L K positive c [] vs f = tt
 first-differs n L K positive c (r ∷ rs) vs f = λ same. omega (arith, f .0)
 
 module _ (n L : ℕ) (positive : 0 < n) (low : L ≤ highest) where
-  abbrev runsStep : List ℕ → Read → Read → Outcome Grid
+  abbrev pub runsStep : List ℕ → Read → Read → Outcome Grid
   runsStep bs k r =
       refuse-when-at (eqb (r .value) 0 || ltb limit (r .value)) 21 (k .next)
       (mapped (λ (vs : List Leaf). record { roots = k .value; leaves = vs }) (runsAt n L bs (k .value) (r .value) (r .next) (suc L) (place 0 0) 0))
 
-  abbrev rootsStep : List ℕ → Read → Outcome Grid
+  abbrev pub rootsStep : List ℕ → Read → Outcome Grid
   rootsStep bs k = refuse-when-at (outOfRange (k .value)) 17 4 (and-then (numberAt bs (k .next)) (runsStep bs k))
 
   opened : (rest : List ℕ) → gridAt n L (tag ++ rest) ≡ and-then (numberAt (tag ++ rest) 4) (rootsStep (tag ++ rest))
   opened rest = simp (le-ltb (length (tag ++ rest)) 4 (omega arith))
 
-  read-back : (K : ℕ) (vs : List Leaf) → 0 < K → K ≤ 4096 → length vs ≤ limit → Valid n L K vs → gridAt n L (fileOf K vs) ≡ accepted (record { roots = K; leaves = vs })
+  pub read-back : (K : ℕ) (vs : List Leaf) → 0 < K → K ≤ 4096 → length vs ≤ limit → Valid n L K vs → gridAt n L (fileOf K vs) ≡ accepted (record { roots = K; leaves = vs })
   read-back K vs some few short valid =
       let rs = runsOf vs in
       let R = length rs in
@@ -136,15 +130,3 @@ module _ (n L : ℕ) (positive : 0 < n) (low : L ≤ highest) where
       (ap (mapped (λ (us : List Leaf). record { roots = K; leaves = us }))
       (ap (λ (i : ℕ). runsAt n L bs K R i (suc L) (place 0 0) 0) (sym (length-append pre1 (bytesOf R)))
       ∙ runs-read n L K bs positive low rs vs pre2 (suc L) (place 0 0) 0 whole2 (first-differs n L K positive (place 0 0) rs vs f) (omega arith) f)))
-
-  pub written : Written n L
-  written = record { read-back = read-back; one-file = one-file }
-    where
-      accepted-once : (a b : Grid) → _≡_ {A = Outcome Grid} (accepted a) (accepted b) → a ≡ b
-      accepted-once a b e = ap (gridOr a) e
-
-      one-file : (K K′ : ℕ) (vs vs′ : List Leaf) → 0 < K → K ≤ 4096 → length vs ≤ limit → Valid n L K vs → 0 < K′ → K′ ≤ 4096 → length vs′ ≤ limit → Valid n L K′ vs′
-          → fileOf K vs ≡ fileOf K′ vs′ → (K ≡ K′) × (vs ≡ vs′)
-      one-file K K′ vs vs′ some few short valid some′ few′ short′ valid′ same =
-          let grids = accepted-once _ _ (sym (read-back K vs some few short valid) ∙ ap (gridAt n L) same ∙ read-back K′ vs′ some′ few′ short′ valid′) in
-          (ap (λ (g : Grid). g .roots) grids, ap (λ (g : Grid). g .leaves) grids)

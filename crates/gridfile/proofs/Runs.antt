@@ -16,12 +16,12 @@ use Rattle.leaves.proofs.Span.{power-pos}
 use Rattle.gridfile.specs.File.{Run, run, joinRun, runsOf}
 use Rattle.gridfile.specs.Reading.{next, fits, leavesOf, after}
 
-module _ (n L K : ℕ) (positive : 0 < n) where
-  -- the first of the runs is of another level than l
-  abbrev pub Differs : ℕ → List Run → Type 0
-  Differs l [] = Unit {0}
-  Differs l (r ∷ rs) = l ≡ r .level → ⊥
+-- the first of the runs is of another level than l
+abbrev pub Differs : ℕ → List Run → Type 0
+Differs l [] = Unit {0}
+Differs l (r ∷ rs) = l ≡ r .level → ⊥
 
+module _ (n L K : ℕ) (positive : 0 < n) where
   -- the runs rs are read from c on as the leaves vs, to the end of the last root
   unfoldable pub Reads : Place → List Run → List Leaf → Type 0
   Reads c [] vs = (vs ≡ []) × (c ≡ place K 0)

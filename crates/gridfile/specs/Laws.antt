@@ -3,7 +3,9 @@
 --   Bytes bs      every entry is a byte
 --   Codec         read after write: the bytes of a number below 2^21, wherever they stand, are read as that number; write after read: any
 --                 bytes that are accepted are those of the number read, and it is below 2^21
---   Written       the file of a valid list is read as that list, so a list's file is accepted and no two lists have one file
+--   FileOf bs g   the bytes bs are the file of the grid g, which is valid
+--   OneFile       the file of a valid list is read as that list; what is read is a valid list, and the bytes are its file; so "A list has one
+--                 file and a file one list"
 --
 -- Assumes nothing.
 use mathlib.Core.Path.{_≡_}
@@ -12,11 +14,11 @@ use Prim.Native.Nat.{ℕ, _+_, _≤_, _<_}
 use lib.ListN.{length, getD}
 use lib.Seq.{slice}
 use Rattle.paper.specs.Outcome.{accepted}
-use Rattle.leaves.specs.Leaves.{Leaf, Valid}
+use Rattle.leaves.specs.Leaves.{Valid}
 use Rattle.leaves.specs.Calls.{limit}
 use Rattle.gridfile.specs.Numbers.{highest, bytesOf, read, numberAt}
 use Rattle.gridfile.specs.File.{fileOf}
-use Rattle.gridfile.specs.Reading.{gridAt}
+use Rattle.gridfile.specs.Reading.{Grid, gridAt}
 
 abbrev pub Bytes : List ℕ → Type 0
 Bytes bs = (i : ℕ) → i < length bs → getD bs i 0 < 256
@@ -28,8 +30,14 @@ pub record Codec : Type 0 where
       → (v ≤ highest) × (j ≤ length bs) × (j ≡ i + length (bytesOf v)) × (slice i j bs ≡ bytesOf v)
 
 module _ (n L : ℕ) where
-  pub record Written : Type 0 where
-    pub read-back : (K : ℕ) (vs : List Leaf) → 0 < K → K ≤ 4096 → length vs ≤ limit → Valid n L K vs
-        → gridAt n L (fileOf K vs) ≡ accepted (record { roots = K; leaves = vs })
-    pub one-file : (K K′ : ℕ) (vs vs′ : List Leaf) → 0 < K → K ≤ 4096 → length vs ≤ limit → Valid n L K vs
-        → 0 < K′ → K′ ≤ 4096 → length vs′ ≤ limit → Valid n L K′ vs′ → fileOf K vs ≡ fileOf K′ vs′ → (K ≡ K′) × (vs ≡ vs′)
+  pub record FileOf (bs : List ℕ) (g : Grid) : Type 0 where
+    pub some-root : 0 < g .roots
+    pub few-roots : g .roots ≤ 4096
+    pub few : length (g .leaves) ≤ limit
+    pub valid : Valid n L (g .roots) (g .leaves)
+    pub file : bs ≡ fileOf (g .roots) (g .leaves)
+
+  pub record OneFile : Type 0 where
+    pub read-back : (bs : List ℕ) (g : Grid) → FileOf bs g → gridAt n L bs ≡ accepted g
+    pub written-back : (bs : List ℕ) (g : Grid) → Bytes bs → gridAt n L bs ≡ accepted g → FileOf bs g
+    pub one-list : (bs : List ℕ) (g g′ : Grid) → FileOf bs g → FileOf bs g′ → g ≡ g′
