@@ -8,7 +8,8 @@ use lib.Dec.{ltb, eqb}
 use lib.ListN.{length, length-append}
 use borrow.Author.Tests.{le-ltb, eq-eqb, ne-eqb}
 use Rattle.paper.specs.Outcome.{Outcome, accepted, refuse-when-at, mapped}
-use Rattle.leaves.specs.Leaves.{Leaf, Place, place, Covers, Valid}
+use Rattle.leaves.specs.Leaves.{Leaf, Place, place, Valid}
+use Rattle.leaves.proofs.Entries.{some-leaf}
 use Rattle.leaves.specs.Calls.{limit, outOfRange}
 use Rattle.gridfile.specs.Numbers.{highest, bytesOf, Read, read, numberAt}
 use Rattle.gridfile.specs.File.{Run, runsOf, runBytes, fileOf, tag}
@@ -82,12 +83,6 @@ module _ (n L K : ℕ) (bs : List ℕ) where
       (ap (λ (i : ℕ). runsAt n L bs K (length rs) i l (after n L c l k) (N + k)) (sym (length-append pre1 (bytesOf k)))
       ∙ runs-read positive low rs rest pre2 l (after n L c l k) (N + k) whole2 (f .3) (omega arith) (f .4 .1 .1))
       ∙ ap accepted (sym (f .4 .1 .0))
-
--- the leaves of one root at least are some
-some-leaf : (n L K : ℕ) (vs : List Leaf) → 0 < K → Valid n L K vs → 0 < length vs
-unfolding Covers
-some-leaf n L K [] some valid = absurd (let none : 0 ≡ K = ap (λ (p : Place). p .root) valid in omega arith)
-some-leaf n L K (v ∷ vs) some valid = omega arith
 
 -- the first run is of a level
 first-differs : (n L K : ℕ) (positive : 0 < n) (c : Place) (rs : List Run) (vs : List Leaf) → Reads n L K positive c rs vs → Differs (suc L) rs

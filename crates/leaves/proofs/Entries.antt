@@ -1,10 +1,10 @@
 -- The leaves of a list that covers, one by one: each is sound, and each starts where the one before it ends. Assumes nothing.
-use mathlib.Core.Path.{_≡_}
+use mathlib.Core.Path.{_≡_, ap}
 use mathlib.Core.List.{List, [], _∷_}
 use Prim.Native.Nat.{ℕ, zero, suc, _^_, _≤_, _<_}
 use native.Mathlib.Omega.{arith}
 use lib.ListN.{length}
-use Rattle.leaves.specs.Leaves.{Leaf, Place, startOf, endOf, Covers}
+use Rattle.leaves.specs.Leaves.{Leaf, Place, startOf, endOf, Covers, Valid}
 use Rattle.leaves.specs.Laws.{at}
 
 module _ (n L K : ℕ) where
@@ -30,3 +30,9 @@ module _ (n L K : ℕ) where
   follows c [] j f inside = absurd (omega arith)
   follows c (v ∷ vs) zero f inside = starts-at (endOf n L v) vs (f .4) (omega arith)
   follows c (v ∷ vs) (suc j) f inside = follows (endOf n L v) vs j (f .4) (omega arith)
+
+-- the leaves of one root at least are some
+pub some-leaf : (n L K : ℕ) (vs : List Leaf) → 0 < K → Valid n L K vs → 0 < length vs
+unfolding Covers
+some-leaf n L K [] some valid = absurd (let none : 0 ≡ K = ap (λ (p : Place). p .root) valid in omega arith)
+some-leaf n L K (v ∷ vs) some valid = omega arith

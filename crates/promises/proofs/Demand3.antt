@@ -1,7 +1,7 @@
 -- Demand 3: the cells are those of a valid list, the shares are fair, and an accepted call of shares found both. Assumes nothing.
-use mathlib.Core.Path.{_≡_, ap, _∙_}
+use mathlib.Core.Path.{_≡_, _∙_}
 use mathlib.Core.Bool.{true, not}
-use mathlib.Core.List.{List, [], _∷_}
+use mathlib.Core.List.{List}
 use Prim.Native.Nat.{ℕ, zero, suc, _<_}
 use native.Mathlib.Omega.{arith}
 use lib.Dec.{ltb, eqb}
@@ -11,9 +11,10 @@ use Rattle.paper.specs.Outcome.{passed}
 use Rattle.paper.proofs.Tests.{or-none, no-fault}
 use Rattle.paper.proofs.Scan.{accepted-of, scan-accepted, scan-each}
 use Rattle.prism.specs.Elements.{prismTo, prism}
-use Rattle.leaves.specs.Leaves.{Leaf, leaves, Place, Covers, Valid}
+use Rattle.leaves.specs.Leaves.{Leaf, leaves, Valid}
 use Rattle.leaves.specs.Calls.{outOfRange}
 use Rattle.leaves.proofs.Ancestors.{tied}
+use Rattle.leaves.proofs.Entries.{some-leaf}
 use Rattle.leaves.proofs.Listed.{columns-sound, listed-accepted, listed-fits, leaves-length}
 use Rattle.adaption.specs.Laws.{Reached}
 use Rattle.shares.specs.Calls.{weightFault, shares}
@@ -22,12 +23,6 @@ use Rattle.prism.proofs.Laws as prism-laws
 use Rattle.adaption.proofs.Promised as adaption-laws
 use Rattle.shares.proofs.Promised as shares-laws
 use Rattle.promises.specs.Demand3.{Divided, OfGrids}
-
--- the leaves of one root at least are some
-some-leaf : (K : ℕ) (vs : List Leaf) → 0 < K → Valid 8 21 K vs → 0 < length vs
-unfolding Covers
-some-leaf K [] some valid = absurd (let none : 0 ≡ K = ap (λ (p : Place). p .root) valid in omega arith)
-some-leaf K (v ∷ vs) some valid = omega arith
 
 of-list : (K P : ℕ) (vs : List Leaf) (ws : List ℕ) → Valid 8 21 K vs → 0 < length vs → length ws ≡ length vs → Weighty ws → 0 < P → Divided K P vs ws
 unfolding prismTo
@@ -84,9 +79,9 @@ reached-root K (suc s) vs (us, (reached, step)) = reached-root K s us reached
 pub of-grids : OfGrids
 of-grids =
     record {
-      of-valid = λ K P vs ws some valid. of-list K P vs ws valid (some-leaf K vs some valid);
+      of-valid = λ K P vs ws some valid. of-list K P vs ws valid (some-leaf 8 21 K vs some valid);
       of-reached = λ K s P vs ws reached.
           let valid = adaption-laws.promised 8 21 (omega arith) .reached K s vs reached in
-          of-list K P vs ws valid (some-leaf K vs (reached-root K s vs reached) valid);
+          of-list K P vs ws valid (some-leaf 8 21 K vs (reached-root K s vs reached) valid);
       of-accepted = of-accepted;
     }
