@@ -2,4 +2,5 @@ pub mod Numbers
 pub mod Readings
 pub mod File
 pub mod Reading
+pub mod Calls
 pub mod Laws

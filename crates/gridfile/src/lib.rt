@@ -6,3 +6,9 @@ pub enum NumberRead {
     Is(u32, usize),
     Refused(u8, u64),
 }
+
+// A grid that was read: its roots and the number of its leaves, or the refusal's number and place.
+pub enum GridAnswer {
+    Is(u16, u64),
+    Refused(u8, u64),
+}
