@@ -15,7 +15,8 @@ use Rattle.paper.proofs.Front.{written-run, written-length}
 use Rattle.leaves.specs.Leaves.{Leaf, leaf}
 use Rattle.leaves.specs.Laws.{at}
 use Rattle.adaption.specs.Adaption.{joined, gives, adapted}
-use Rattle.adaption.specs.Pass.{turn, gain, stride, newLevel, newPosition, run, made, Ran, Passed}
+use Rattle.adaption.specs.Pass.{turn, gain, stride, newLevel, newPosition, made}
+use Rattle.leaves.specs.Stretch.{stretch, Ran, Passed}
 use Rattle.adaption.proofs.Turns.{from, from-end, Clear, Turn, turn-at}
 
 -- ---- one turn's numbers
@@ -47,7 +48,7 @@ module _ (n : ℕ) (positive : 0 < n) where
       (λ not-one not-two. simp (ne-eqb t 2 not-two) (omega arith))
 
   -- the positions of a run fit 64 bits
-  pub run-fits : (t p : ℕ) → p < 2 ^ 64 → (t ≡ 1 → n * p + n ≤ 2 ^ 63) → newPosition n t p + gain n t ≤ 2 ^ 64
+  pub run-fits : (t p : ℕ) → p < 2 ^ 63 → (t ≡ 1 → n * p + n ≤ 2 ^ 63) → newPosition n t p + gain n t ≤ 18446744073709551615
   run-fits t p small narrow =
       by-number t
       (λ one. simp (eq-eqb t 1 one) (omega (arith, narrow one)))
@@ -190,8 +191,8 @@ module _ (n : ℕ) (positive : 0 < n) (vs : List Leaf) (ms : List ℕ) (roots le
 
 -- ---- what the code has run is what the turn makes
 pub made-is : (n : ℕ) (vs : List Leaf) (ms : List ℕ) (i t l p k : ℕ) (v : Leaf) → t ≡ turn n vs ms i → v ≡ at vs i
-    → l ≡ newLevel t (v .level) → p ≡ newPosition n t (v .position) → k ≡ gain n t → run (v .root) l p k ≡ made n vs ms i
+    → l ≡ newLevel t (v .level) → p ≡ newPosition n t (v .position) → k ≡ gain n t → stretch (v .root) l p k ≡ made n vs ms i
 made-is n vs ms i t l p k v is-turn is-leaf level position count =
-    ap (λ (x : ℕ). run (v .root) x p k) level
-    ∙ ap₂ (run (v .root) (newLevel t (v .level))) position count
-    ∙ ap₂ (λ (w : Leaf) (x : ℕ). run (w .root) (newLevel x (w .level)) (newPosition n x (w .position)) (gain n x)) is-leaf is-turn
+    ap (λ (x : ℕ). stretch (v .root) x p k) level
+    ∙ ap₂ (stretch (v .root) (newLevel t (v .level))) position count
+    ∙ ap₂ (λ (w : Leaf) (x : ℕ). stretch (w .root) (newLevel x (w .level)) (newPosition n x (w .position)) (gain n x)) is-leaf is-turn

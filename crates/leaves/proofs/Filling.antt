@@ -1,7 +1,7 @@
 -- The columns of a uniform start: the leaves of a root all have its number, so a root's run of entries makes the front longer by a root.
 -- Assumes nothing.
 use mathlib.Core.Path.{_≡_, refl, ap, ap₂, _∙_, sym}
-use mathlib.Core.List.{List, _∷_, _++_}
+use mathlib.Core.List.{List, [], _∷_, _++_}
 use Prim.Native.Nat.{ℕ, zero, suc, _+_, _*_, _/_, _%_, _^_, _≤_, _<_}
 use native.Mathlib.Nat.{add-zero, add-suc, suc-add, zero-add, one-mul, mod-eq-of-lt, div-eq-of-lt-le, mul-le-mul-right}
 use native.Mathlib.Omega.{arith}
@@ -26,6 +26,10 @@ rows-equal f r i j zero same = refl
 rows-equal f r i j (suc m) same =
     ap₂ (λ (x : ℕ) (xs : List ℕ). x ∷ xs) (same i (omega arith) (omega arith))
     (rows-equal f r (suc i) (suc j) m (λ k low high. same k (omega arith) (omega arith)))
+
+-- entries stored from the first on are the front
+pub from-front : (f : ℕ → ℕ) (l : List ℕ) (k : ℕ) → k ≤ length l → sets l 0 (rows f 0 k) ≡ written (rows f 0 k) l
+from-front f l k room = written-run [] (rows f 0 k) l (omega (arith, rows-length f 0 k))
 
 -- ---- what the code shifts
 pub each-is : (b : ℕ) → b < 64 → 1 * 2 ^ b % 2 ^ 64 ≡ 2 ^ b

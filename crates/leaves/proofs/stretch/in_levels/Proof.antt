@@ -1,4 +1,4 @@
--- `run_levels` meets its contract: each turn stores one entry more. Assumes nothing.
+-- `in_levels` meets its contract: each turn stores one entry more. Assumes nothing.
 use mathlib.Core.Path.{_≡_, refl, ap, _∙_, sym}
 use mathlib.Core.List.{List}
 use Prim.Native.Nat.{ℕ, _+_, _-_, _≤_}
@@ -8,8 +8,8 @@ use lib.Seq.{sets, length-sets}
 use borrow.Author.Needs.{needs}
 use Rattle.paper.specs.Outcome.{rows}
 use Rattle.paper.proofs.Front.{run-more}
-use Rattle.adaption.proofs.run.run_levels.Statement.{statement}
-use Rattle.adaption.proofs.run.run_levels.Tie as tie
+use Rattle.leaves.proofs.stretch.in_levels.Statement.{statement}
+use Rattle.leaves.proofs.stretch.in_levels.Tie as tie
 
 abbrev Inv-loop : tie.InvT-loop
 Inv-loop at count level levels₀ t₀ levels t = (t ≤ count) × (levels ≡ sets levels₀ at (rows (λ t. level) 0 t))
@@ -45,8 +45,8 @@ returns c =
     let all : (c .before .loop .t) ≡ (c .before .before .args .count) = omega arith in
     rw (sym all) (c .before .loop .inv .1)
 
-pub run-levels-spec : {M : Type 1} → statement M
-run-levels-spec =
+pub in-levels-spec : {M : Type 1} → statement M
+in-levels-spec =
     tie.close
     (tie.spec
     Inv-loop

@@ -1,4 +1,4 @@
--- `run_roots` meets its contract: each turn stores one entry more. Assumes nothing.
+-- `in_roots` meets its contract: each turn stores one entry more. Assumes nothing.
 use mathlib.Core.Path.{_≡_, refl, ap, _∙_, sym}
 use mathlib.Core.List.{List}
 use Prim.Native.Nat.{ℕ, _+_, _-_, _≤_}
@@ -8,8 +8,8 @@ use lib.Seq.{sets, length-sets}
 use borrow.Author.Needs.{needs}
 use Rattle.paper.specs.Outcome.{rows}
 use Rattle.paper.proofs.Front.{run-more}
-use Rattle.adaption.proofs.run.run_roots.Statement.{statement}
-use Rattle.adaption.proofs.run.run_roots.Tie as tie
+use Rattle.leaves.proofs.stretch.in_roots.Statement.{statement}
+use Rattle.leaves.proofs.stretch.in_roots.Tie as tie
 
 abbrev Inv-loop : tie.InvT-loop
 Inv-loop at count root roots₀ t₀ roots t = (t ≤ count) × (roots ≡ sets roots₀ at (rows (λ t. root) 0 t))
@@ -48,8 +48,8 @@ returns c =
     let all : (c .before .loop .t) ≡ (c .before .before .args .count) = omega arith in
     rw (sym all) (c .before .loop .inv .1)
 
-pub run-roots-spec : {M : Type 1} → statement M
-run-roots-spec =
+pub in-roots-spec : {M : Type 1} → statement M
+in-roots-spec =
     tie.close
     (tie.spec
     Inv-loop

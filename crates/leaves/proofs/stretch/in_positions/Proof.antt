@@ -1,4 +1,4 @@
--- `run_positions` meets its contract: each turn stores one entry more. Assumes nothing.
+-- `in_positions` meets its contract: each turn stores one entry more. Assumes nothing.
 use mathlib.Core.Path.{_≡_, refl, ap, _∙_, sym}
 use mathlib.Core.List.{List}
 use Prim.Native.Nat.{ℕ, _+_, _-_, _≤_}
@@ -8,8 +8,8 @@ use lib.Seq.{sets, length-sets}
 use borrow.Author.Needs.{needs}
 use Rattle.paper.specs.Outcome.{rows}
 use Rattle.paper.proofs.Front.{run-more}
-use Rattle.adaption.proofs.run.run_positions.Statement.{statement}
-use Rattle.adaption.proofs.run.run_positions.Tie as tie
+use Rattle.leaves.proofs.stretch.in_positions.Statement.{statement}
+use Rattle.leaves.proofs.stretch.in_positions.Tie as tie
 
 abbrev Inv-loop : tie.InvT-loop
 Inv-loop at count position positions₀ t₀ positions t = (t ≤ count) × (positions ≡ sets positions₀ at (rows (λ t. position + t) 0 t))
@@ -51,8 +51,8 @@ returns c =
     let all : (c .before .loop .t) ≡ (c .before .before .args .count) = omega arith in
     rw (sym all) (c .before .loop .inv .1)
 
-pub run-positions-spec : {M : Type 1} → statement M
-run-positions-spec =
+pub in-positions-spec : {M : Type 1} → statement M
+in-positions-spec =
     tie.close
     (tie.spec
     Inv-loop
