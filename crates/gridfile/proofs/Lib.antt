@@ -4,5 +4,10 @@ pub mod Coded
 pub mod Runs
 pub mod ReadBack
 pub mod Fitting
+pub mod Units
+pub mod Tests
+pub mod Spots
+pub mod Counting
+pub mod Taking
 pub mod Accepting
 pub mod OneFile

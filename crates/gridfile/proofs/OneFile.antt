@@ -7,7 +7,8 @@ use Rattle.gridfile.specs.Numbers.{highest}
 use Rattle.gridfile.specs.Reading.{Grid, gridAt}
 use Rattle.gridfile.specs.Laws.{FileOf, OneFile}
 use Rattle.gridfile.proofs.ReadBack.{read-back}
-use Rattle.gridfile.proofs.Accepting.{accepted-file, accepted-same}
+use Rattle.gridfile.proofs.Taking.{accepted-same}
+use Rattle.gridfile.proofs.Accepting.{accepted-file}
 
 module _ (n L : ℕ) (positive : 0 < n) (low : L ≤ highest) where
   reads : (bs : List ℕ) (g : Grid) → FileOf n L bs g → gridAt n L bs ≡ accepted g
