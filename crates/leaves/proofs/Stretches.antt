@@ -1,19 +1,20 @@
 -- A stretch of leaves stored from an index on, in each of three columns. Assumes nothing.
-use mathlib.Core.Path.{_≡_, refl, ap, _∙_, sym, subst, subst⁻¹}
+use mathlib.Core.Path.{_≡_, refl, ap, ap₂, _∙_, sym, subst, subst⁻¹}
 use mathlib.Core.Bool.{Bool, true, false, cond, _&&_, and-eq-true-iff}
-use mathlib.Core.List.{List, map}
+use mathlib.Core.List.{List, _++_, map, map-append}
 use Prim.Native.Nat.{ℕ, _+_, _-_, _≤_, _<_}
 use native.Mathlib.Nat.{add-zero}
 use native.Mathlib.Decide.{decLt}
 use native.Mathlib.Omega.{arith}
 use lib.Dec.{leb}
-use lib.ListN.{length, set}
+use lib.ListN.{length, set, length-map}
 use lib.Seq.{sets, length-sets}
 use borrow.Author.Tests.{le-leb, lt-leb, leb-true}
 use Rattle.paper.specs.Outcome.{rows}
-use Rattle.paper.proofs.Front.{map-rows}
+use Rattle.paper.specs.Memory.{written}
+use Rattle.paper.proofs.Front.{map-rows, sets-append, written-run, written-length}
 use Rattle.leaves.specs.Leaves.{Leaf, leaf}
-use Rattle.leaves.specs.Stretch.{stretch, laid, Ran}
+use Rattle.leaves.specs.Stretch.{stretch, laid, Ran, Passed}
 
 -- column by column
 pub ran-all : (at r l p k : ℕ) {rs ls ps rs′ ls′ ps′ : List ℕ} → rs′ ≡ sets rs at (rows (λ t. r) 0 k) → ls′ ≡ sets ls at (rows (λ t. l) 0 k)
@@ -88,3 +89,54 @@ module _ {at : ℕ} {vs : List Leaf} {roots levels positions rs ls ps : List ℕ
 
   pub positions-long : length ps ≡ length positions
   positions-long = ap length (f .in-positions) ∙ length-sets positions at (map (λ (v : Leaf). v .position) vs)
+
+-- ---- leaves after leaves
+column-after : (g : Leaf → ℕ) (i : ℕ) (xs ys : List Leaf) (old mid new : List ℕ) → mid ≡ sets old i (map g xs) → new ≡ sets mid (i + length xs) (map g ys)
+    → new ≡ sets old i (map g (xs ++ ys))
+column-after g i xs ys old mid new first second =
+    second
+    ∙ ap₂ (λ (l : List ℕ) (k : ℕ). sets l (i + k) (map g ys)) first (sym (length-map xs g))
+    ∙ sets-append old i (map g xs) (map g ys)
+    ∙ ap (sets old i) (sym (map-append g xs ys))
+
+pub ran-after : {roots levels positions rs ls ps rs′ ls′ ps′ : List ℕ} (i : ℕ) (xs ys : List Leaf) → Ran i xs roots levels positions rs ls ps
+    → Ran (i + length xs) ys rs ls ps rs′ ls′ ps′ → Ran i (xs ++ ys) roots levels positions rs′ ls′ ps′
+ran-after {roots} {levels} {positions} {rs} {ls} {ps} {rs′} {ls′} {ps′} i xs ys f h =
+    record {
+      in-roots = column-after (λ (v : Leaf). v .root) i xs ys roots rs rs′ (f .in-roots) (h .in-roots);
+      in-levels = column-after (λ (v : Leaf). v .level) i xs ys levels ls ls′ (f .in-levels) (h .in-levels);
+      in-positions = column-after (λ (v : Leaf). v .position) i xs ys positions ps ps′ (f .in-positions) (h .in-positions);
+    }
+
+-- ---- leaves after those at the front
+column-more : (g : Leaf → ℕ) (done more : List Leaf) (size : ℕ) (old mid new : List ℕ) → size ≡ length done → length done + length more ≤ length old
+    → mid ≡ written (map g done) old → new ≡ sets mid size (map g more) → new ≡ written (map g (done ++ more)) old
+column-more g done more size old mid new counted room front run =
+    run
+    ∙ ap₂ (λ (l : List ℕ) (k : ℕ). sets l k (map g more)) front (counted ∙ sym (length-map done g))
+    ∙ written-run (map g done) (map g more) old (omega (arith, length-map done g, length-map more g))
+    ∙ ap (λ (xs : List ℕ). written xs old) (sym (map-append g done more))
+
+column-long : (g : Leaf → ℕ) (done : List Leaf) (old new : List ℕ) → new ≡ written (map g done) old → length done ≤ length old → length new ≡ length old
+column-long g done old new front room = ap length front ∙ written-length (map g done) old (omega (arith, length-map done g))
+
+module _ {roots levels positions rs ls ps : List ℕ} (done : List Leaf) (f : Passed done roots levels positions rs ls ps) where
+  -- the columns stay as long as they were
+  pub roots-stay : length done ≤ length roots → length rs ≡ length roots
+  roots-stay room = column-long (λ (v : Leaf). v .root) done roots rs (f .in-roots) room
+
+  pub levels-stay : length done ≤ length levels → length ls ≡ length levels
+  levels-stay room = column-long (λ (v : Leaf). v .level) done levels ls (f .in-levels) room
+
+  pub positions-stay : length done ≤ length positions → length ps ≡ length positions
+  positions-stay room = column-long (λ (v : Leaf). v .position) done positions ps (f .in-positions) room
+
+  pub passed-more : {rs′ ls′ ps′ : List ℕ} (more : List Leaf) (size : ℕ) → size ≡ length done → length done + length more ≤ length roots
+      → length done + length more ≤ length levels → length done + length more ≤ length positions → Ran size more rs ls ps rs′ ls′ ps′
+      → Passed (done ++ more) roots levels positions rs′ ls′ ps′
+  passed-more {rs′} {ls′} {ps′} more size counted r-room l-room p-room h =
+      record {
+        in-roots = column-more (λ (v : Leaf). v .root) done more size roots rs rs′ counted r-room (f .in-roots) (h .in-roots);
+        in-levels = column-more (λ (v : Leaf). v .level) done more size levels ls ls′ counted l-room (f .in-levels) (h .in-levels);
+        in-positions = column-more (λ (v : Leaf). v .position) done more size positions ps ps′ counted p-room (f .in-positions) (h .in-positions);
+      }
