@@ -8,6 +8,8 @@ pub mod Units
 pub mod Tests
 pub mod Spots
 pub mod Counting
+pub mod Laying
+pub mod Underway
 pub mod Taking
 pub mod Accepting
 pub mod OneFile

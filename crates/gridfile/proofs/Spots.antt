@@ -10,13 +10,14 @@ use lib.Dec.{ltb, eqb}
 use lib.Pow.{pow-pos}
 use borrow.Author.Tests.{lt-ltb, le-ltb, ne-eqb}
 use Rattle.tree.proofs.Digits.{power-bits}
+use Rattle.paper.specs.Outcome.{rows}
 use Rattle.leaves.specs.Leaves.{Leaf, leaf, Place, place, span, endOf}
 use Rattle.leaves.proofs.Span.{power-pos, fill}
 use Rattle.leaves.proofs.Shift.{bits-le, bits-left, root-cells, shifted}
 use Rattle.leaves.proofs.Filling.{each-is}
 use Rattle.gridfile.specs.Passes.{upto}
 use Rattle.gridfile.specs.Reading.{next, fits, leavesOf, after}
-use Rattle.gridfile.proofs.Units.{moved, after-moved, fits-moved}
+use Rattle.gridfile.proofs.Units.{moved, after-moved, leaves-moved, fits-moved}
 
 module _ (n L l K : ℕ) (positive : 0 < n) (shallow : l ≤ L) (c : Place) where
   -- a leaf can't start at a cell that is not divisible by what it holds
@@ -52,6 +53,9 @@ module _ (n L l K : ℕ) (positive : 0 < n) (shallow : l ≤ L) (c : Place) wher
 
     pub after-is : (k : ℕ) → after n L c l k ≡ moved n L l positive shallow (c .root) (c .cell / span n L l + k)
     after-is k = ap (λ (d : Place). after n L d l k) (sym is-moved) ∙ after-moved n L l positive shallow (c .root) (c .cell / span n L l) k
+
+    pub leaves-are : (k : ℕ) → leavesOf n L c l k ≡ rows (λ t. leaf (c .root + t / n ^ l) l (t % n ^ l)) (c .cell / span n L l) k
+    leaves-are k = ap (λ (d : Place). leavesOf n L d l k) (sym is-moved) ∙ leaves-moved n L l positive shallow (c .root) (c .cell / span n L l) k
 
     pub fits-is : (k : ℕ) → (k ≡ 0 → ⊥) → fits n L K c l k ≡ upto K (after n L c l k)
     fits-is zero some = absurd (some refl)

@@ -16,6 +16,16 @@ use Rattle.leaves.proofs.Span.{power-pos, fill, more-mul, quotient, rest, end-l
 use Rattle.gridfile.specs.Passes.{upto}
 use Rattle.gridfile.specs.Reading.{next, fits, leavesOf, after}
 
+-- a larger number has no smaller quotient
+pub quotient-order : (m a b : ℕ) → 0 < m → a ≤ b → a / m ≤ b / m
+quotient-order m a b some less = by (decLt (b / m) (a / m))
+  where
+    by : Dec (b / m < a / m) → a / m ≤ b / m
+    by (yes over) =
+        let next : b / m + 1 ≤ a / m = omega arith in
+        absurd (omega (arith, div-add-mod' a m, div-add-mod' b m, mul-le-mul-right m next, more-mul (b / m) m, mod-lt b some))
+    by (no upto) = omega arith
+
 -- ---- not past the last root
 pub upto-within : (K : ℕ) (c : Place) → c .root < K → upto K c ≡ true
 upto-within K c inside = simp (lt-ltb (c .root) K inside)
@@ -140,14 +150,7 @@ module _ (n L l : ℕ) (positive : 0 < n) (shallow : l ≤ L) where
         by (no same) = by-root (decLt K (r + x / each))
           where
             order : u / each ≤ x / each
-            order = ordered (decLt (x / each) (u / each))
-              where
-                ordered : Dec (x / each < u / each) → u / each ≤ x / each
-                ordered (yes less) =
-                    let next : x / each + 1 ≤ u / each = omega arith in
-                    absurd (omega (arith, parts u, parts x, mul-le-mul-right each next, more-mul (x / each) each, mod-lt x some-each))
-                ordered (no upto) = omega arith
-
+            order = quotient-order each u x some-each (omega arith)
             some : x % each * span n L l ≡ 0 → ⊥
             some none =
                 let equal : x / each ≡ u / each = omega (arith, order) in

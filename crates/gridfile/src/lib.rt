@@ -1,4 +1,5 @@
 // The grid file: a leaf list as bytes. Its numbers are groups of seven bits.
+mod fill;
 mod front;
 mod number;
 mod walk;
@@ -31,4 +32,11 @@ pub enum RunAnswer {
 pub struct Spot {
     pub root: u64,
     pub cell: u64,
+}
+
+// A run of a sound file: its level, its count and the offset of what follows it.
+pub struct Pair {
+    pub level: u8,
+    pub count: u32,
+    pub next: usize,
 }
