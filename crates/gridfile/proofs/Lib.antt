@@ -6,3 +6,6 @@ pub mod ReadBack
 pub mod Fitting
 pub mod Accepting
 pub mod OneFile
+pub mod Writing
+pub mod Putting
+pub mod Filed

@@ -3,4 +3,5 @@ pub mod Readings
 pub mod File
 pub mod Reading
 pub mod Calls
+pub mod Writing
 pub mod Laws
