@@ -89,32 +89,12 @@ module _ (K R : ℕ) (ls bs : List ℕ) (runs : R ≡ length (levelRuns ls)) (ro
         length-append (bytesOf R) pairs,
       )
 
-  pub room-roots : 4 + length (bytesOf K) ≤ length (sets bs 0 tag)
-  room-roots = omega (arith, file-room, length-sets bs 0 tag)
-
-  module _ {bs₁ : List ℕ} (m : ℕ) (one : m ≡ length (bytesOf K)) (first : bs₁ ≡ sets (sets bs 0 tag) 4 (bytesOf K)) where
-    kept-roots : length bs₁ ≡ length bs
-    kept-roots = ap length first ∙ length-sets (sets bs 0 tag) 4 (bytesOf K) ∙ length-sets bs 0 tag
-
-    pub room-runs : 4 + m + length (bytesOf R) ≤ length bs₁
-    room-runs = omega (arith, file-room, kept-roots)
-
-    module _ {bs₂ : List ℕ} (k : ℕ) (two : k ≡ length (bytesOf R)) (second : bs₂ ≡ sets bs₁ (4 + m) (bytesOf R)) where
-      kept-runs : length bs₂ ≡ length bs
-      kept-runs = ap length second ∙ length-sets bs₁ (4 + m) (bytesOf R) ∙ kept-roots
-
-      pub room-pairs : 4 + m + k + length pairs ≤ length bs₂
-      room-pairs = omega (arith, file-room, kept-runs)
-
-      module _ {bs₃ : List ℕ} (third : bs₃ ≡ sets bs₂ (4 + m + k) pairs) where
-        pub file-kept : length bs₃ ≡ length bs
-        file-kept = ap length third ∙ length-sets bs₂ (4 + m + k) pairs ∙ kept-runs
-
-        pub file-put : bs₃ ≡ written (levelFile K ls) bs
-        file-put =
-            third
-            ∙ rw (second, first, one, two) (
-            sym (sets-append (sets (sets bs 0 tag) 4 (bytesOf K)) (4 + length (bytesOf K)) (bytesOf R) pairs)
-            ∙ sym (sets-append (sets bs 0 tag) 4 (bytesOf K) (bytesOf R ++ pairs))
-            ∙ sym (ap (sets bs 0) whole)
-            ∙ written-run [] (levelFile K ls) bs (omega arith))
+  module _ {bs₁ bs₂ bs₃ : List ℕ} (m u : ℕ) (one : m ≡ length (bytesOf K)) (two : u ≡ length (bytesOf R)) where
+    pub file-put : bs₁ ≡ sets (sets bs 0 tag) 4 (bytesOf K) → bs₂ ≡ sets bs₁ (4 + m) (bytesOf R) → bs₃ ≡ sets bs₂ (4 + m + u) pairs → bs₃ ≡ written (levelFile K ls) bs
+    file-put first second third =
+        third
+        ∙ rw (second, first, one, two) (
+        sym (sets-append (sets (sets bs 0 tag) 4 (bytesOf K)) (4 + length (bytesOf K)) (bytesOf R) pairs)
+        ∙ sym (sets-append (sets bs 0 tag) 4 (bytesOf K) (bytesOf R ++ pairs))
+        ∙ sym (ap (sets bs 0) whole)
+        ∙ written-run [] (levelFile K ls) bs (omega arith))

@@ -2,6 +2,7 @@
 --
 --   levelRuns ls    the runs of the leaves whose levels are ls
 --   levelFile K ls  their file
+--   OneLevel ls l j n   n levels from j on are l
 --   Alike ls i j    the leaves from i on are of one level as far as j
 --   RunEnd ls i j   the run that begins with leaf i ends before leaf j: "Neighbouring runs differ in level"
 --   Counted ls R b  there are R runs, and their pairs have b bytes
@@ -9,7 +10,7 @@
 -- Assumes nothing.
 use mathlib.Core.Path.{_≡_}
 use mathlib.Core.List.{List, [], _∷_, _++_}
-use Prim.Native.Nat.{ℕ, _≤_, _<_}
+use Prim.Native.Nat.{ℕ, _+_, _≤_, _<_}
 use lib.ListN.{length, getD}
 use Rattle.gridfile.specs.Numbers.{bytesOf}
 use Rattle.gridfile.specs.File.{Run, joinRun, runBytes, tag}
@@ -20,6 +21,9 @@ levelRuns (l ∷ ls) = joinRun l (levelRuns ls)
 
 abbrev pub levelFile : ℕ → List ℕ → List ℕ
 levelFile K ls = tag ++ (bytesOf K ++ (bytesOf (length (levelRuns ls)) ++ runBytes (levelRuns ls)))
+
+abbrev pub OneLevel : List ℕ → ℕ → ℕ → ℕ → Type 0
+OneLevel ls l j n = (t : ℕ) → t < n → getD ls (j + t) 0 ≡ l
 
 pub record Alike (ls : List ℕ) (i j : ℕ) : Type 0 where
   pub some : i < j

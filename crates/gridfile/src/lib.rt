@@ -4,6 +4,7 @@ use paper::PassAnswer;
 ghost use Rattle.gridfile.specs.Calls.{FileWritten};
 
 mod number;
+mod run;
 mod writer;
 
 // "The file opens with the four bytes 50 47 52 31".
@@ -34,8 +35,8 @@ pub fn write(
     if let PassAnswer::Refused(number, place) = leaves::check_list(k, roots, levels, positions) {
         return NumberAnswer::Refused(number, place);
     }
-    let runs = writer::count(levels);
-    let size = 4 + number::size(k as u32) + number::size(runs.count as u32) + runs.bytes;
+    let runs = run::count(levels);
+    let size = 4 + number::size(k as u32) + number::size(runs.count) + runs.bytes;
     if bytes.len() < size {
         return NumberAnswer::Refused(14, size as u64);
     }

@@ -16,8 +16,8 @@ abbrev μ-loop : tie.MeasureT-loop
 loop-holds : tie.Need-loop-holds Inv-loop μ-loop
 loop-holds c = stored-none (c .before .before .args .levels .now) (c .before .before .args .start) (c .before .before .args .bytes .now) (c .before .before .pre .1)
 
-run-end-requires : tie.Need-run-end-requires Inv-loop μ-loop
-run-end-requires c κs = (c .loop-test .taken)
+end-requires : tie.Need-end-requires Inv-loop μ-loop
+end-requires c κs = (c .loop-test .taken)
 
 shared-slice-read-level : tie.Need-shared-slice-read-level Inv-loop μ-loop
 shared-slice-read-level c = search needs
@@ -26,34 +26,34 @@ cast-level : tie.Need-cast-level Inv-loop μ-loop
 cast-level c = omega (arith, (c .shared-slice-known2 .given) (c .before .before .before .loop .i))
 
 sub-count : tie.Need-sub-count Inv-loop μ-loop
-sub-count c = omega (arith, (c .before .run-end .ensures .alike .some))
+sub-count c = omega (arith, (c .before .end .ensures .alike .some))
 
 cast-count : tie.Need-cast-count Inv-loop μ-loop
-cast-count c = omega (arith, (c .before .run-end .ensures .alike .within), (c .before .before .before .before .before .before .pre .0))
+cast-count c = omega (arith, (c .before .end .ensures .alike .within), (c .before .before .before .before .before .before .pre .0))
 
 put-requires : tie.Need-put-requires Inv-loop μ-loop
-put-requires c κs = (omega (arith, (c .before .shared-slice-known2 .given) (c .before .before .before .before .loop .i)), omega (arith, room-run (c .before .before .before .before .before .before .before .args .levels .now) (c .before .before .before .before .before .before .before .args .start) (c .before .before .before .before .before .before .before .args .bytes .now) (c .before .before .before .before .loop .i) (c .before .before .before .before .loop .at) (c .before .before .before .before .loop .bytes) (c .before .before .before .before .loop .inv) (c .before .before .run-end .result) (c .before .before .run-end .ensures)))
+put-requires c κs = (omega (arith, (c .before .shared-slice-known2 .given) (c .before .before .before .before .loop .i)), omega (arith, room-run (c .before .before .before .before .before .before .before .args .levels .now) (c .before .before .before .before .before .before .before .args .start) (c .before .before .before .before .before .before .before .args .bytes .now) (c .before .before .before .before .loop .i) (c .before .before .before .before .loop .at) (c .before .before .before .before .loop .bytes) (c .before .before .before .before .loop .inv) (c .before .before .end .result) (c .before .before .end .ensures)))
 
 size-requires : tie.Need-size-requires Inv-loop μ-loop
 size-requires c κs = search needs
 
 add-at : tie.Need-add-at Inv-loop μ-loop
-add-at c = omega (arith, (c .size .ensures), room-run (c .before .before .before .before .before .before .before .before .before .before .before .args .levels .now) (c .before .before .before .before .before .before .before .before .before .before .before .args .start) (c .before .before .before .before .before .before .before .before .before .before .before .args .bytes .now) (c .before .before .before .before .before .before .before .before .loop .i) (c .before .before .before .before .before .before .before .before .loop .at) (c .before .before .before .before .before .before .before .before .loop .bytes) (c .before .before .before .before .before .before .before .before .loop .inv) (c .before .before .before .before .before .before .run-end .result) (c .before .before .before .before .before .before .run-end .ensures))
+add-at c = omega (arith, (c .size .ensures), room-run (c .before .before .before .before .before .before .before .before .before .before .before .args .levels .now) (c .before .before .before .before .before .before .before .before .before .before .before .args .start) (c .before .before .before .before .before .before .before .before .before .before .before .args .bytes .now) (c .before .before .before .before .before .before .before .before .loop .i) (c .before .before .before .before .before .before .before .before .loop .at) (c .before .before .before .before .before .before .before .before .loop .bytes) (c .before .before .before .before .before .before .before .before .loop .inv) (c .before .before .before .before .before .before .end .result) (c .before .before .before .before .before .before .end .ensures))
 
 put-requires-2 : tie.Need-put-requires-2 Inv-loop μ-loop
-put-requires-2 c κs = (omega (arith, (c .before .before .before .before .before .before .before .run-end .ensures .alike .within), (c .before .before .before .before .before .before .before .before .before .before .before .before .pre .0)), room-count (c .before .before .before .before .before .before .before .before .before .before .before .before .args .levels .now) (c .before .before .before .before .before .before .before .before .before .before .before .before .args .start) (c .before .before .before .before .before .before .before .before .before .before .before .before .args .bytes .now) (c .before .before .before .before .before .before .before .before .before .loop .i) (c .before .before .before .before .before .before .before .before .before .loop .at) (c .before .before .before .before .before .before .before .before .before .loop .bytes) (c .before .before .before .before .before .before .before .before .before .loop .inv) (c .before .before .before .before .before .before .before .run-end .result) (c .before .before .before .before .before .before .before .run-end .ensures) (c .before .size .result) (c .before .size .ensures) (c .before .before .before .before .put .ensures))
+put-requires-2 c κs = (omega (arith, (c .before .before .before .before .before .before .before .end .ensures .alike .within), (c .before .before .before .before .before .before .before .before .before .before .before .before .pre .0)), room-count (c .before .before .before .before .before .before .before .before .before .before .before .before .args .levels .now) (c .before .before .before .before .before .before .before .before .before .before .before .before .args .start) (c .before .before .before .before .before .before .before .before .before .before .before .before .args .bytes .now) (c .before .before .before .before .before .before .before .before .before .loop .i) (c .before .before .before .before .before .before .before .before .before .loop .at) (c .before .before .before .before .before .before .before .before .before .loop .bytes) (c .before .before .before .before .before .before .before .before .before .loop .inv) (c .before .before .before .before .before .before .before .end .result) (c .before .before .before .before .before .before .before .end .ensures) (c .before .size .result) (c .before .size .ensures) (c .before .before .before .before .put .ensures))
 
 size-requires-2 : tie.Need-size-requires-2 Inv-loop μ-loop
 size-requires-2 c κs = search needs
 
 add-at-2 : tie.Need-add-at-2 Inv-loop μ-loop
-add-at-2 c = omega (arith, (c .before .before .before .before .before .size .ensures), (c .size2 .ensures), room-run (c .before .before .before .before .before .before .before .before .before .before .before .before .before .before .before .before .args .levels .now) (c .before .before .before .before .before .before .before .before .before .before .before .before .before .before .before .before .args .start) (c .before .before .before .before .before .before .before .before .before .before .before .before .before .before .before .before .args .bytes .now) (c .before .before .before .before .before .before .before .before .before .before .before .before .before .loop .i) (c .before .before .before .before .before .before .before .before .before .before .before .before .before .loop .at) (c .before .before .before .before .before .before .before .before .before .before .before .before .before .loop .bytes) (c .before .before .before .before .before .before .before .before .before .before .before .before .before .loop .inv) (c .before .before .before .before .before .before .before .before .before .before .before .run-end .result) (c .before .before .before .before .before .before .before .before .before .before .before .run-end .ensures))
+add-at-2 c = omega (arith, (c .before .before .before .before .before .size .ensures), (c .size2 .ensures), room-run (c .before .before .before .before .before .before .before .before .before .before .before .before .before .before .before .before .args .levels .now) (c .before .before .before .before .before .before .before .before .before .before .before .before .before .before .before .before .args .start) (c .before .before .before .before .before .before .before .before .before .before .before .before .before .before .before .before .args .bytes .now) (c .before .before .before .before .before .before .before .before .before .before .before .before .before .loop .i) (c .before .before .before .before .before .before .before .before .before .before .before .before .before .loop .at) (c .before .before .before .before .before .before .before .before .before .before .before .before .before .loop .bytes) (c .before .before .before .before .before .before .before .before .before .before .before .before .before .loop .inv) (c .before .before .before .before .before .before .before .before .before .before .before .end .result) (c .before .before .before .before .before .before .before .before .before .before .before .end .ensures))
 
 loop-less : tie.Need-loop-less Inv-loop μ-loop
-loop-less c = omega (arith, (c .before .before .before .before .before .before .before .before .before .before .before .run-end .ensures .alike .some), (c .before .before .before .before .before .before .before .before .before .before .before .run-end .ensures .alike .within))
+loop-less c = omega (arith, (c .before .before .before .before .before .before .before .before .before .before .before .end .ensures .alike .some), (c .before .before .before .before .before .before .before .before .before .before .before .end .ensures .alike .within))
 
 loop-again : tie.Need-loop-again Inv-loop μ-loop
-loop-again c = stored-next (c .before .before .before .before .before .before .before .before .before .before .before .before .before .before .before .before .args .levels .now) (c .before .before .before .before .before .before .before .before .before .before .before .before .before .before .before .before .args .start) (c .before .before .before .before .before .before .before .before .before .before .before .before .before .before .before .before .args .bytes .now) (c .before .before .before .before .before .before .before .before .before .before .before .before .before .loop .i) (c .before .before .before .before .before .before .before .before .before .before .before .before .before .loop .at) (c .before .before .before .before .before .before .before .before .before .before .before .before .before .loop .bytes) (c .before .before .before .before .before .before .before .before .before .before .before .before .before .loop .inv) (c .before .before .before .before .before .before .before .before .before .before .before .run-end .result) (c .before .before .before .before .before .before .before .before .before .before .before .run-end .ensures) (c .before .before .before .before .before .size .result) (c .before .before .before .before .before .size .ensures) (c .before .before .before .before .before .before .before .before .put .ensures) (c .size2 .result) (c .size2 .ensures) (c .before .before .before .put2 .ensures)
+loop-again c = stored-next (c .before .before .before .before .before .before .before .before .before .before .before .before .before .before .before .before .args .levels .now) (c .before .before .before .before .before .before .before .before .before .before .before .before .before .before .before .before .args .start) (c .before .before .before .before .before .before .before .before .before .before .before .before .before .before .before .before .args .bytes .now) (c .before .before .before .before .before .before .before .before .before .before .before .before .before .loop .i) (c .before .before .before .before .before .before .before .before .before .before .before .before .before .loop .at) (c .before .before .before .before .before .before .before .before .before .before .before .before .before .loop .bytes) (c .before .before .before .before .before .before .before .before .before .before .before .before .before .loop .inv) (c .before .before .before .before .before .before .before .before .before .before .before .end .result) (c .before .before .before .before .before .before .before .before .before .before .before .end .ensures) (c .before .before .before .before .before .size .result) (c .before .before .before .before .before .size .ensures) (c .before .before .before .before .before .before .before .before .put .ensures) (c .size2 .result) (c .size2 .ensures) (c .before .before .before .put2 .ensures)
 
 same-length : tie.Need-same-length Inv-loop μ-loop
 same-length c = (c .before .loop .inv .long)
@@ -68,7 +68,7 @@ put-runs-spec =
     Inv-loop
     μ-loop
     loop-holds
-    run-end-requires
+    end-requires
     shared-slice-read-level
     cast-level
     sub-count

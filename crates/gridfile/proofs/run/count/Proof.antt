@@ -4,8 +4,8 @@ use native.Mathlib.Omega.{arith}
 use lib.ListN.{length, getD}
 use borrow.Author.Needs.{needs}
 use Rattle.gridfile.proofs.Writing.{few-bytes, Along, along-none, along-few, along-next, along-done}
-use Rattle.gridfile.proofs.writer.count.Statement.{statement}
-use Rattle.gridfile.proofs.writer.count.Tie as tie
+use Rattle.gridfile.proofs.run.count.Statement.{statement}
+use Rattle.gridfile.proofs.run.count.Tie as tie
 
 abbrev Inv-loop : tie.InvT-loop
 Inv-loop levels i₀ count₀ bytes₀ i count bytes = Along levels i count bytes
@@ -16,8 +16,8 @@ abbrev μ-loop : tie.MeasureT-loop
 loop-holds : tie.Need-loop-holds Inv-loop μ-loop
 loop-holds c = along-none (c .before .args .levels .now)
 
-run-end-requires : tie.Need-run-end-requires Inv-loop μ-loop
-run-end-requires c κs = (c .loop-test .taken)
+end-requires : tie.Need-end-requires Inv-loop μ-loop
+end-requires c κs = (c .loop-test .taken)
 
 add-count : tie.Need-add-count Inv-loop μ-loop
 add-count c = let few = along-few (c .before .before .before .before .args .levels .now) (c .before .before .loop .i) (c .before .before .loop .count) (c .before .before .loop .bytes) (c .before .before .loop .inv) (c .before .before .before .before .pre) in search needs
@@ -32,25 +32,25 @@ size-requires : tie.Need-size-requires Inv-loop μ-loop
 size-requires c κs = search needs
 
 sub-size : tie.Need-sub-size Inv-loop μ-loop
-sub-size c = omega (arith, (c .before .before .run-end .ensures .alike .some))
+sub-size c = omega (arith, (c .before .before .end .ensures .alike .some))
 
 cast-size-2 : tie.Need-cast-size-2 Inv-loop μ-loop
-cast-size-2 c = omega (arith, (c .before .before .run-end .ensures .alike .within), (c .before .before .before .before .before .before .pre))
+cast-size-2 c = omega (arith, (c .before .before .end .ensures .alike .within), (c .before .before .before .before .before .before .pre))
 
 size-requires-2 : tie.Need-size-requires-2 Inv-loop μ-loop
 size-requires-2 c κs = search needs
 
 add-bytes : tie.Need-add-bytes Inv-loop μ-loop
-add-bytes c = omega (arith, (c .before .size .ensures), (c .size2 .ensures), few-bytes (getD (c .before .before .before .before .before .before .before .args .levels .now) (c .before .before .before .before .before .loop .i) 0), few-bytes ((c .before .before .before .run-end .result) - (c .before .before .before .before .before .loop .i)))
+add-bytes c = omega (arith, (c .before .size .ensures), (c .size2 .ensures), few-bytes (getD (c .before .before .before .before .before .before .before .args .levels .now) (c .before .before .before .before .before .loop .i) 0), few-bytes ((c .before .before .before .end .result) - (c .before .before .before .before .before .loop .i)))
 
 add-bytes-2 : tie.Need-add-bytes-2 Inv-loop μ-loop
-add-bytes-2 c = let few = along-few (c .before .before .before .before .before .before .before .args .levels .now) (c .before .before .before .before .before .loop .i) (c .before .before .before .before .before .loop .count) (c .before .before .before .before .before .loop .bytes) (c .before .before .before .before .before .loop .inv) (c .before .before .before .before .before .before .before .pre) in omega (arith, few, (c .before .size .ensures), (c .size2 .ensures), few-bytes (getD (c .before .before .before .before .before .before .before .args .levels .now) (c .before .before .before .before .before .loop .i) 0), few-bytes ((c .before .before .before .run-end .result) - (c .before .before .before .before .before .loop .i)))
+add-bytes-2 c = let few = along-few (c .before .before .before .before .before .before .before .args .levels .now) (c .before .before .before .before .before .loop .i) (c .before .before .before .before .before .loop .count) (c .before .before .before .before .before .loop .bytes) (c .before .before .before .before .before .loop .inv) (c .before .before .before .before .before .before .before .pre) in omega (arith, few, (c .before .size .ensures), (c .size2 .ensures), few-bytes (getD (c .before .before .before .before .before .before .before .args .levels .now) (c .before .before .before .before .before .loop .i) 0), few-bytes ((c .before .before .before .end .result) - (c .before .before .before .before .before .loop .i)))
 
 loop-less : tie.Need-loop-less Inv-loop μ-loop
-loop-less c = omega (arith, (c .before .before .before .run-end .ensures .alike .some), (c .before .before .before .run-end .ensures .alike .within))
+loop-less c = omega (arith, (c .before .before .before .end .ensures .alike .some), (c .before .before .before .end .ensures .alike .within))
 
 loop-again : tie.Need-loop-again Inv-loop μ-loop
-loop-again c = rw ((c .before .size .ensures), (c .size2 .ensures)) (along-next (c .before .before .before .before .before .before .before .args .levels .now) (c .before .before .before .before .before .loop .i) (c .before .before .before .before .before .loop .count) (c .before .before .before .before .before .loop .bytes) (c .before .before .before .before .before .loop .inv) (c .before .before .before .run-end .result) (c .before .before .before .run-end .ensures))
+loop-again c = rw ((c .before .size .ensures), (c .size2 .ensures)) (along-next (c .before .before .before .before .before .before .before .args .levels .now) (c .before .before .before .before .before .loop .i) (c .before .before .before .before .before .loop .count) (c .before .before .before .before .before .loop .bytes) (c .before .before .before .before .before .loop .inv) (c .before .before .before .end .result) (c .before .before .before .end .ensures))
 
 returns : tie.Need-returns Inv-loop μ-loop
 returns c = along-done (c .before .before .before .args .levels .now) (c .before .loop .i) (c .before .loop .count) (c .before .loop .bytes) (c .before .loop .inv) (c .loop-test .left)
@@ -62,7 +62,7 @@ count-spec =
     Inv-loop
     μ-loop
     loop-holds
-    run-end-requires
+    end-requires
     add-count
     shared-slice-read-size
     cast-size
