@@ -6,6 +6,7 @@ pub mod ReadBack
 pub mod Fitting
 pub mod Accepting
 pub mod OneFile
+pub mod Ending
 pub mod Writing
 pub mod Putting
 pub mod Filed

@@ -1,11 +1,13 @@
 -- The words of the writer's own contracts: the file of a list by its levels alone. Definitions only.
 --
---   levelRuns ls    the runs of the leaves whose levels are ls
---   levelFile K ls  their file
---   OneLevel ls l j n   n levels from j on are l
---   Alike ls i j    the leaves from i on are of one level as far as j
---   RunEnd ls i j   the run that begins with leaf i ends before leaf j: "Neighbouring runs differ in level"
---   Counted ls R b  there are R runs, and their pairs have b bytes
+--   levelRuns ls        the runs of the leaves whose levels are ls
+--   levelFile K ls      the file of such a list of K roots
+--   OneLevel ls l j n   the n levels from j on are l
+--   Alike ls i j        the leaves from i on are of one level as far as j
+--   RunEnd ls i j       the run that begins with leaf i ends before leaf j: "Neighbouring runs differ in level"
+--   Counted ls R b      there are R runs, and their pairs have b bytes
+--
+-- That the file by its levels is `fileOf` is the law `file-levels` of `proofs/Writing.antt`.
 --
 -- Assumes nothing.
 use mathlib.Core.Path.{_≡_}

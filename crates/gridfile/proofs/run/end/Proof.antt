@@ -4,7 +4,7 @@ use native.Mathlib.Omega.{arith}
 use lib.ListN.{length}
 use borrow.Author.Needs.{needs}
 use Rattle.gridfile.specs.Writing.{Alike}
-use Rattle.gridfile.proofs.Writing.{alike-next}
+use Rattle.gridfile.proofs.Ending.{alike-next}
 use Rattle.gridfile.proofs.run.end.Statement.{statement}
 use Rattle.gridfile.proofs.run.end.Tie as tie
 

@@ -6,7 +6,7 @@ use Prim.Native.Nat.{_-_, _≤_}
 use native.Mathlib.Omega.{arith}
 use borrow.Author.Needs.{needs}
 use Rattle.gridfile.specs.Writing.{OneLevel}
-use Rattle.gridfile.proofs.Writing.{one-more, one-other}
+use Rattle.gridfile.proofs.Ending.{one-more, one-other}
 use Rattle.gridfile.proofs.run.one_level.Statement.{statement}
 use Rattle.gridfile.proofs.run.one_level.Tie as tie
 

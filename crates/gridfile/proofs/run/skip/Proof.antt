@@ -5,7 +5,7 @@ use lib.ListN.{length}
 use borrow.Author.Needs.{needs}
 use borrow.Author.Tests.{not-false}
 use Rattle.gridfile.specs.Writing.{Alike}
-use Rattle.gridfile.proofs.Writing.{alike-one, alike-more}
+use Rattle.gridfile.proofs.Ending.{alike-one, alike-more}
 use Rattle.gridfile.proofs.run.skip.Statement.{statement}
 use Rattle.gridfile.proofs.run.skip.Tie as tie
 
