@@ -16,13 +16,13 @@ use Rattle.leaves.specs.Calls.{limit}
 use Rattle.leaves.proofs.Span.{power-pos}
 use Rattle.gridfile.specs.Numbers.{highest, bytesOf, byteAt, Read, read, numberAt}
 use Rattle.gridfile.specs.File.{run, runsOf, runBytes, tag}
-use Rattle.gridfile.specs.Reading.{Grid, opens, headAt, leavesOf, after, RunRead, runAt, runsAt, gridAt}
+use Rattle.gridfile.specs.Reading.{Grid, opens, headAt, leavesOf, after, RunRead, runAt, runsAt, gridAt, headed}
 use Rattle.gridfile.specs.Laws.{Bytes, FileOf}
 use Rattle.gridfile.proofs.Coded.{codec}
 use Rattle.gridfile.proofs.Runs.{Differs, leaves-count}
 use Rattle.gridfile.proofs.Fitting.{Proper, after-proper, fits-covers, run-of}
 use Rattle.gridfile.proofs.Taking.{then-accepted, accepted-same, mapped-accepted, RunTaken, run-taken, head-taken}
-use Rattle.gridfile.proofs.ReadBack.{runStep, apart, headStep}
+use Rattle.gridfile.proofs.ReadBack.{runStep, apart}
 
 -- the bytes from i on, parted at j
 parted : (l : List ℕ) (i j : ℕ) → i ≤ j → j ≤ length l → drop i l ≡ slice i j l ++ drop j l
@@ -104,7 +104,7 @@ opened bs h =
 module _ (n L : ℕ) (positive : 0 < n) (low : L ≤ highest) where
   pub accepted-file : (bs : List ℕ) (g : Grid) → Bytes bs → gridAt n L bs ≡ accepted g → FileOf n L bs g
   accepted-file bs g all e =
-      let top = then-accepted (headAt bs) (headStep n L bs) g e in
+      let top = then-accepted (headAt bs) (headed n L bs) g e in
       let h = top .0 in
       let t = head-taken bs h (top .1 .0) in
       let grid = mapped-accepted (λ (vs : List Leaf). record { roots = h .roots; leaves = vs }) _ g (top .1 .1) in

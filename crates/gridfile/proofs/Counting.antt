@@ -9,7 +9,7 @@ use Rattle.paper.specs.Outcome.{Outcome, accepted, refused, mapped}
 use Rattle.leaves.specs.Leaves.{Leaf, Place, place}
 use Rattle.leaves.specs.Calls.{limit}
 use Rattle.leaves.proofs.Span.{power-pos}
-use Rattle.gridfile.specs.Reading.{and-then, leavesOf, after, RunRead, runAt, runsAt, afterLast}
+use Rattle.gridfile.specs.Reading.{leavesOf, after, RunRead, runAt, runsAt, afterLast}
 use Rattle.gridfile.proofs.Runs.{leaves-count}
 use Rattle.gridfile.proofs.Fitting.{after-proper}
 use Rattle.gridfile.proofs.Units.{upto-root}

@@ -1,6 +1,6 @@
 -- A run's leaves are laid root by root: what is left of a root is a stretch, whose leaves have one root and rising positions. Assumes nothing.
 use mathlib.Core.Path.{_≡_, refl, ap, ap₂, _∙_, sym, subst, subst⁻¹}
-use mathlib.Core.List.{List, _∷_, _++_}
+use mathlib.Core.List.{List, _∷_}
 use Prim.Native.Nat.{ℕ, zero, suc, _+_, _-_, _*_, _/_, _%_, _^_, _≤_, _<_}
 use native.Mathlib.Nat.{div-add-mod', mod-lt, add-suc, add-zero}
 use native.Mathlib.Omega.{arith}

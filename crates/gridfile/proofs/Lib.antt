@@ -10,6 +10,11 @@ pub mod Spots
 pub mod Counting
 pub mod Laying
 pub mod Underway
+pub mod Loading
 pub mod Taking
 pub mod Accepting
 pub mod OneFile
+pub mod Ending
+pub mod Writing
+pub mod Putting
+pub mod Filed

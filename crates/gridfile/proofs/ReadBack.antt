@@ -12,7 +12,7 @@ use Rattle.leaves.proofs.Entries.{some-leaf}
 use Rattle.leaves.specs.Calls.{limit}
 use Rattle.gridfile.specs.Numbers.{highest, bytesOf, Read, read, numberAt}
 use Rattle.gridfile.specs.File.{Run, runsOf, runBytes, fileOf, tag}
-use Rattle.gridfile.specs.Reading.{and-then, Grid, Head, head, afterRuns, afterRoots, headAt, fits, leavesOf, after, RunRead, runRead, afterCount, afterLevel, runAt, runsAt, gridAt}
+use Rattle.gridfile.specs.Reading.{and-then, Head, head, afterRuns, afterRoots, headAt, headed, fits, leavesOf, after, RunRead, runRead, afterCount, afterLevel, runAt, runsAt, gridAt}
 use Rattle.gridfile.proofs.Coded.{codec}
 use Rattle.gridfile.proofs.Runs.{Reads, Differs, reads-of, leaves-count, runs-few, runs-some}
 
@@ -83,11 +83,6 @@ unfolding Reads
 first-differs n L K positive c [] vs f = tt
 first-differs n L K positive c (r ∷ rs) vs f = λ same. omega (arith, f .0)
 
-module _ (n L : ℕ) where
-  -- what follows the head
-  abbrev pub headStep : List ℕ → Head → Outcome Grid
-  headStep bs h = mapped (λ (vs : List Leaf). record { roots = h .roots; leaves = vs }) (runsAt n L bs (h .roots) (h .runs) (h .next) (suc L) (place 0 0) 0)
-
 opened : (rest : List ℕ) → headAt (tag ++ rest) ≡ and-then (numberAt (tag ++ rest) 4) (afterRoots (tag ++ rest))
 opened rest = simp (le-ltb (length (tag ++ rest)) 4 (omega arith))
 
@@ -113,7 +108,7 @@ module _ (n L : ℕ) (positive : 0 < n) (low : L ≤ highest) where
       ∙ simp (ne-eqb K 0 (λ none. omega arith), le-ltb 4096 K few)
       (ap (λ (o : Outcome Read). and-then o (afterRuns (read K (4 + length (bytesOf K))))) runs
       ∙ simp (ne-eqb R 0 (λ none. omega arith), le-ltb limit R (omega arith))) in
-      ap (λ (o : Outcome Head). and-then o (headStep n L bs)) top
+      ap (λ (o : Outcome Head). and-then o (headed n L bs)) top
       ∙ ap (mapped (λ (us : List Leaf). record { roots = K; leaves = us }))
       (ap (λ (i : ℕ). runsAt n L bs K R i (suc L) (place 0 0) 0) (sym (length-append pre1 (bytesOf R)))
       ∙ runs-read n L K bs positive low rs vs pre2 (suc L) (place 0 0) 0 whole2 (first-differs n L K positive (place 0 0) rs vs f) (omega arith) f)

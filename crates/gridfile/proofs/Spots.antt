@@ -6,17 +6,17 @@ use Prim.Native.Nat.{ℕ, zero, suc, _+_, _-_, _*_, _/_, _%_, _^_, _≤_, _<_}
 use native.Mathlib.Nat.{div-add-mod', div-lt-iff-lt-mul, div-eq-of-lt, mod-eq-of-lt, mod-lt, div-le-self, mul-le-mul-right, one-mul}
 use native.Mathlib.Decide.{ℕ-discrete}
 use native.Mathlib.Omega.{arith}
-use lib.Dec.{ltb, eqb}
+use lib.Dec.{ltb}
 use lib.Pow.{pow-pos}
-use borrow.Author.Tests.{lt-ltb, le-ltb, ne-eqb}
+use borrow.Author.Tests.{ne-eqb}
 use Rattle.tree.proofs.Digits.{power-bits}
 use Rattle.paper.specs.Outcome.{rows}
-use Rattle.leaves.specs.Leaves.{Leaf, leaf, Place, place, span, endOf}
+use Rattle.leaves.specs.Leaves.{leaf, Place, place, span}
 use Rattle.leaves.proofs.Span.{power-pos, fill}
 use Rattle.leaves.proofs.Shift.{bits-le, bits-left, root-cells, shifted}
 use Rattle.leaves.proofs.Filling.{each-is}
 use Rattle.gridfile.specs.Passes.{upto}
-use Rattle.gridfile.specs.Reading.{next, fits, leavesOf, after}
+use Rattle.gridfile.specs.Reading.{fits, leavesOf, after}
 use Rattle.gridfile.proofs.Units.{moved, after-moved, leaves-moved, fits-moved}
 
 module _ (n L l K : ℕ) (positive : 0 < n) (shallow : l ≤ L) (c : Place) where

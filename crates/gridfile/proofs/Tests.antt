@@ -1,17 +1,16 @@
 -- Reading a file, test by test: what stands behind each test that is passed, and the refusal at each that is not. Assumes nothing.
-use mathlib.Core.Path.{_≡_, ap, _∙_, subst⁻¹}
-use mathlib.Core.Bool.{Bool, true, false, not, _&&_, _||_}
+use mathlib.Core.Path.{_≡_, ap, _∙_}
+use mathlib.Core.Bool.{Bool, true, false, not, _||_}
 use mathlib.Core.List.{List, []}
 use Prim.Native.Nat.{ℕ, _+_, _≤_, _<_}
-use native.Mathlib.Omega.{arith}
 use lib.Dec.{ltb, eqb}
 use lib.ListN.{length}
 use borrow.Author.Tests.{lt-ltb, le-ltb, eq-eqb, ne-eqb}
 use Rattle.paper.specs.Outcome.{Outcome, accepted, refused, refuse-when-at}
-use Rattle.leaves.specs.Leaves.{Leaf, Place}
+use Rattle.leaves.specs.Leaves.{Place}
 use Rattle.leaves.specs.Calls.{limit}
 use Rattle.gridfile.specs.Numbers.{Read, byteAt, numberAt}
-use Rattle.gridfile.specs.Reading.{and-then, opens, Head, head, afterRuns, afterRoots, headAt, afterLast, fits, RunRead, runRead, afterCount, afterLevel}
+use Rattle.gridfile.specs.Reading.{and-then, opens, head, afterRuns, afterRoots, headAt, afterLast, fits, runRead, afterCount, afterLevel}
 
 -- ---- an outcome that is handed on, a test that is passed
 pub then-is : {A B : Type 0} (o : Outcome A) (f : A → Outcome B) (a : A) → o ≡ accepted a → and-then o f ≡ f a

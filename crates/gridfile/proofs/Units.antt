@@ -1,7 +1,7 @@
 -- A run counted in leaves of its own level: n^l of them fill a root, so u of them from the start of root r on end u / n^l roots further, after
 -- u % n^l leaves. Assumes nothing.
 use mathlib.Core.Path.{_≡_, refl, ap, ap₂, _∙_, sym}
-use mathlib.Core.Bool.{Bool, true, false, true≢false, _&&_, _||_}
+use mathlib.Core.Bool.{Bool, true, false, true≢false, _&&_}
 use mathlib.Core.List.{List, _∷_}
 use Prim.Native.Nat.{ℕ, zero, suc, _+_, _-_, _*_, _/_, _%_, _^_, _≤_, _<_}
 use native.Mathlib.Nat.{div-add-mod', mod-lt, mul-div-cancel, mul-mod-left, mul-le-mul-right, zero-mul, add-zero, add-suc, suc-add}
@@ -151,6 +151,7 @@ module _ (n L l : ℕ) (positive : 0 < n) (shallow : l ≤ L) where
           where
             order : u / each ≤ x / each
             order = quotient-order each u x some-each (omega arith)
+
             some : x % each * span n L l ≡ 0 → ⊥
             some none =
                 let equal : x / each ≡ u / each = omega (arith, order) in

@@ -4,4 +4,5 @@ pub mod File
 pub mod Reading
 pub mod Calls
 pub mod Passes
+pub mod Writing
 pub mod Laws

@@ -15,7 +15,8 @@
 --                     of the run before, above every level for the first run; c is where the list has come to, N how many leaves it has so far
 --   afterLevel, afterCount, afterLast   "After a level", "after a count", "After the last run"
 --   runsAt            the leaves of the R runs from offset i on
---   gridAt            K and the leaves of a whole file
+--   headed, gridAt    K and the leaves of a file whose front is known, and of a whole file
+--   fitted            "last 14"
 --   reading           the call: the roots and the number of leaves. equal, room: of the lent columns
 --
 -- Assumes nothing.
@@ -79,6 +80,11 @@ afterLast bs K i c =
     (refuse-when-at (ltb i (length bs)) 22 i
     (accepted []))
 
+abbrev pub fitted : ℕ → Grid → Outcome Grid
+fitted room g =
+    refuse-when-at (ltb room (length (g .leaves))) 14 (length (g .leaves))
+    (accepted g)
+
 module _ (n L : ℕ) where
   abbrev pub next : Place → ℕ → Leaf
   next c l = leaf (c .root) l (c .cell / span n L l)
@@ -118,15 +124,15 @@ module _ (n L : ℕ) where
       mapped (λ (vs : List Leaf). leavesOf c (r .level) (r .count) ++ vs)
       (runsAt bs K R (r .next) (r .level) (after c (r .level) (r .count)) (N + r .count)))
 
-  abbrev pub gridAt : List ℕ → Outcome Grid
-  gridAt bs =
-      and-then (headAt bs) (λ (h : Head).
+  abbrev pub headed : List ℕ → Head → Outcome Grid
+  headed bs h =
       mapped (λ (vs : List Leaf). record { roots = h .roots; leaves = vs })
-      (runsAt bs (h .roots) (h .runs) (h .next) (suc L) (place 0 0) 0))
+      (runsAt bs (h .roots) (h .runs) (h .next) (suc L) (place 0 0) 0)
+
+  abbrev pub gridAt : List ℕ → Outcome Grid
+  gridAt bs = and-then (headAt bs) (headed bs)
 
   abbrev pub reading : List ℕ → Bool → ℕ → Outcome Grid
   reading bs equal room =
       refuse-when (not equal) 11
-      (and-then (gridAt bs) (λ (g : Grid).
-      refuse-when-at (ltb room (length (g .leaves))) 14 (length (g .leaves))
-      (accepted g)))
+      (and-then (gridAt bs) (fitted room))

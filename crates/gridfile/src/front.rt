@@ -1,6 +1,7 @@
 // What stands in front of the runs: the tag, K, and the number of runs.
 use crate::NumberRead;
 use crate::Opening;
+use crate::TAG;
 use crate::number;
 ghost use mathlib.Core.Path.{_≡_};
 ghost use Rattle.gridfile.specs.Numbers.{read};
@@ -27,7 +28,7 @@ fn tagged(bytes: &[u8]) -> bool
     if bytes.len() < 4 {
         return false;
     }
-    let tag = b"PGR1";
+    let tag = TAG;
     if bytes[0] != tag[0] {
         return false;
     }

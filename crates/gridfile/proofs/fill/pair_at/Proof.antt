@@ -1,6 +1,6 @@
 -- `pair_at` meets its contract: it takes the level's answer apart; a level below 256 is its own remainder. Assumes nothing.
-use mathlib.Core.Path.{ap, _∙_, sym, subst⁻¹}
-use Prim.Native.Nat.{ℕ, _%_}
+use mathlib.Core.Path.{ap, _∙_, sym}
+use Prim.Native.Nat.{_%_}
 use native.Mathlib.Nat.{mod-eq-of-lt}
 use borrow.Author.Needs.{needs}
 use Rattle.gridfile.specs.Readings.{readOf}

@@ -1,8 +1,7 @@
 -- `after` meets its contract: the shifts are the powers, and no sum leaves its word. Assumes nothing.
 use native.Mathlib.Omega.{arith}
 use borrow.Author.Needs.{needs}
-use lib.Pow.{pow-pos}
-use Rattle.gridfile.proofs.Spots.{left-bits, level-bits, level-is, end-small, root-small, after-spot, some-level}
+use Rattle.gridfile.proofs.Spots.{left-bits, level-bits, end-small, root-small, after-spot, some-level}
 use Rattle.gridfile.proofs.walk.after.Statement.{statement}
 use Rattle.gridfile.proofs.walk.after.Tie as tie
 

@@ -1,8 +1,4 @@
 -- `ended` meets its contract: its three tests in turn. Assumes nothing.
-use mathlib.Core.Path.{ap, sym}
-use Prim.Native.Nat.{ℕ}
-use mathlib.Core.List.{List}
-use lib.ListN.{length}
 use Rattle.gridfile.specs.Passes.{spotOf}
 use Rattle.gridfile.proofs.Tests.{root-left, ground-left, bytes-left, all-read}
 use Rattle.gridfile.proofs.Counting.{ended-refused, ended-accepted}

@@ -1,11 +1,11 @@
 -- `sound` meets its contract: each turn reads one run more. Assumes nothing.
-use mathlib.Core.Path.{_≡_, _∙_, ap, sym, subst⁻¹}
+use mathlib.Core.Path.{_∙_, ap, sym, subst⁻¹}
 use Prim.Native.Nat.{ℕ, _^_}
 use native.Mathlib.Numerals.{add-one}
 use native.Mathlib.Omega.{arith}
 use lib.Pow.{pow-pos}
 use borrow.Author.Needs.{needs}
-use Rattle.leaves.specs.Leaves.{Place, place}
+use Rattle.leaves.specs.Leaves.{place}
 use Rattle.gridfile.specs.Passes.{runOf, spotOf}
 use Rattle.gridfile.proofs.Taking.{run-taken}
 use Rattle.gridfile.proofs.Spots.{few-levels, fits-whole}
