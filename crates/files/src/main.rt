@@ -74,7 +74,10 @@ fn uniform() {
     let mut bytes: [u8; 8] = [0; 8];
     leaves::uniform(1, 1, &mut roots, &mut levels, &mut positions);
     io::write_all(1, b"uniform at level 1:");
-    say_file(gridfile::write(1, &roots, &levels, &positions, &mut bytes), &bytes);
+    say_file(
+        gridfile::write(1, &roots, &levels, &positions, &mut bytes),
+        &bytes,
+    );
     io::write_all(1, b"read back: ");
     say_grid(&bytes);
 }
@@ -101,7 +104,10 @@ fn refined() {
         &mut positions2,
     );
     io::write_all(1, b"leaf 2 refined:");
-    say_file(gridfile::write(1, &roots2, &levels2, &positions2, &mut bytes), &bytes);
+    say_file(
+        gridfile::write(1, &roots2, &levels2, &positions2, &mut bytes),
+        &bytes,
+    );
     io::write_all(1, b"read back: ");
     say_grid(&bytes);
 }
