@@ -1,9 +1,11 @@
 // From an answer to its result.
+use crate::GridResult;
 use crate::LineResult;
 use crate::NumberResult;
 use crate::OrderResult;
 use crate::PrismResult;
 use crate::TriangleResult;
+use gridfile::GridAnswer;
 use line::Line;
 use line::LineAnswer;
 use paper::NumberAnswer;
@@ -20,7 +22,8 @@ ghost use Rattle.paper.specs.Readings.{valueOf, truthOf, orderOf, passOf};
 ghost use Rattle.line.specs.Elements as lines;
 ghost use Rattle.triangle.specs.Elements as triangles;
 ghost use Rattle.prism.specs.Elements as prisms;
-ghost use Rattle.interface.specs.Results.{lineResult, triangleResult, prismResult, numberResult, truthResult, orderResult, passResult};
+ghost use Rattle.gridfile.specs.Readings.{gridOf};
+ghost use Rattle.interface.specs.Results.{lineResult, triangleResult, prismResult, numberResult, truthResult, orderResult, passResult, gridResult};
 
 // The word of a refusal.
 fn word(number: u8, place: u64) -> u64
@@ -152,5 +155,22 @@ pub(crate) fn of_pass(a: PassAnswer) -> u64
     match a {
         PassAnswer::Passed => 0,
         PassAnswer::Refused(number, place) => word(number, place),
+    }
+}
+
+pub(crate) fn of_grid(a: GridAnswer) -> GridResult
+    ensures { λ r. ⌜ r ≡ gridResult (gridOf a) ⌝ }
+{
+    match a {
+        GridAnswer::Is(roots, leaves) => GridResult {
+            refusal: 0,
+            roots: roots as u64,
+            leaves,
+        },
+        GridAnswer::Refused(number, place) => GridResult {
+            refusal: word(number, place),
+            roots: 0,
+            leaves: 0,
+        },
     }
 }
