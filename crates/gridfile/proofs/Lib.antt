@@ -11,6 +11,7 @@ pub mod Counting
 pub mod Laying
 pub mod Underway
 pub mod Loading
+pub mod AreRuns
 pub mod Taking
 pub mod Accepting
 pub mod OneFile
