@@ -20,6 +20,7 @@ use Rattle.gridfile.specs.Laws.{Bytes, ValidGrid, FileOf, OneFile, Round
 use Rattle.gridfile.proofs.ReadBack.{read-back}
 use Rattle.gridfile.proofs.Taking.{accepted-same, then-accepted}
 use Rattle.gridfile.proofs.Accepting.{valid-grid, accepted-file}
+use Rattle.gridfile.proofs.Standing.{grid-stands}
 use Rattle.gridfile.proofs.AreRuns.{runs-are, runs-only}
 
 module _ (n L : ℕ) (positive : 0 < n) (low : L ≤ highest) where
@@ -41,6 +42,7 @@ module _ (n L : ℕ) (positive : 0 < n) (low : L ≤ highest) where
         valid-read = valid-grid n L positive;
         written-back = accepted-file n L positive;
         others-refused = λ bs all none. by bs all none (gridAt n L bs) refl;
+        stands = λ bs more number at e other there. grid-stands bs more n L number at other there e;
         one-list = λ bs g g′ f f′. accepted-same g g′ (sym (reads bs g f) ∙ reads bs g′ f′);
         one-file = λ bs bs′ g f f′. file-is bs g f ∙ sym (file-is bs′ g f′);
       }
@@ -61,7 +63,7 @@ module _ (n L : ℕ) (positive : 0 < n) (low : L ≤ highest) where
       (read-back n L positive low K (leaves rs ls ps) (sound .some-root) (sound .few-roots) (omega (arith, sound .few, leaves-length rs ls ps)) (sound .valid))
 
   -- a list that was read
-  read-grid : (bs : List ℕ) (equal : Bool) (room : ℕ) (g : Grid) → reading n L bs equal room ≡ accepted g → gridAt n L bs ≡ accepted g
+  pub read-grid : (bs : List ℕ) (equal : Bool) (room : ℕ) (g : Grid) → reading n L bs equal room ≡ accepted g → gridAt n L bs ≡ accepted g
   read-grid bs equal room g h =
       let a = accepted-of (not equal) 11 0 (and-then (gridAt n L bs) (fitted room)) g h in
       let b = then-accepted (gridAt n L bs) (fitted room) g (a .1) in

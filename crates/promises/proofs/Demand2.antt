@@ -56,6 +56,7 @@ use Rattle.gridfile.specs.declared.GridAnswer.{GridAnswer}
 use Rattle.gridfile.specs.declared.GridAnswer.the-variants as grid-answer
 use Rattle.gridfile.proofs.Coded.{codec}
 use Rattle.gridfile.proofs.OneFile.{one-file, round-trip}
+use Rattle.gridfile.proofs.InMemory.{in-memory}
 use Rattle.line.specs.Elements as lines
 use Rattle.triangle.specs.Elements as triangles
 use Rattle.prism.specs.Elements as prisms
@@ -185,4 +186,4 @@ of-lists =
     }
 
 pub of-files : OfFiles
-of-files = record { numbers = codec; one-file = one-file 8 21 (omega arith) (omega arith); round-trip = round-trip 8 21 (omega arith) (omega arith) }
+of-files = record { numbers = codec; one-file = one-file 8 21 (omega arith) (omega arith); round-trip = round-trip 8 21 (omega arith) (omega arith); in-memory = in-memory }

@@ -22,7 +22,7 @@ use Rattle.index.specs.Rank.{Ranked}
 use Rattle.leaves.specs.Cells.{Tied}
 use Rattle.balance.specs.Balance.{Exact}
 use Rattle.gridfile.specs.Readings.{readOf, gridOf}
-use Rattle.gridfile.specs.Laws.{Codec, OneFile, RoundTrip}
+use Rattle.gridfile.specs.Laws.{Codec, OneFile, RoundTrip, InMemory}
 use Rattle.leaves.specs.Laws as leaves
 use Rattle.adaption.specs.Laws as adaption
 use Rattle.shares.specs.Laws as shares
@@ -76,3 +76,4 @@ pub record OfFiles : Type 0 where
   pub numbers : Codec
   pub one-file : OneFile 8 21
   pub round-trip : RoundTrip 8 21
+  pub in-memory : InMemory
