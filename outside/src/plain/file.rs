@@ -32,33 +32,34 @@ pub fn write(roots: u16, root: &[u16], level: &[u8], position: &[u64], bytes: &m
     Answer::accepted(size as u64)
 }
 
-/// The runs of a list in order, each by its level and its leaf count.
+/// The runs of a list in order, each by its level and its leaf count. Eight levels at a time are compared with those
+/// before them, and 64 where no run ended for so long.
 #[inline(always)]
 fn each_run(level: &[u8], mut run: impl FnMut(u8, u32)) {
-    let mut start = 0;
-    while start < level.len() {
-        let end = run_end(level, start);
-        run(level[start], (end - start) as u32);
-        start = end;
-    }
-}
-
-/// Where the run that begins at a leaf ends. Eight leaves are compared at a time, and after eight of one level 64.
-#[inline(always)]
-fn run_end(level: &[u8], start: usize) -> usize {
-    let first = level[start];
-    let all = u64::from_le_bytes([first; 8]);
-    let mut i = start;
-    while let Some(eight) = level.get(i..i + 8) {
-        let others = u64::from_le_bytes(eight.try_into().expect("eight levels")) ^ all;
-        if others != 0 {
-            return i + others.trailing_zeros() as usize / 8;
+    let eight = |i: usize| Some(u64::from_le_bytes(level.get(i..i + 8)?.try_into().expect("eight levels")));
+    let (mut start, mut i) = (0, 1);
+    while let Some(after) = eight(i) {
+        let mut changes = after ^ eight(i - 1).expect("eight levels");
+        while changes != 0 {
+            let byte = changes.trailing_zeros() / 8;
+            changes &= !0xff << (8 * byte);
+            let end = i + byte as usize;
+            run(level[start], (end - start) as u32);
+            start = end;
         }
         i += 8;
-        let same = |many: &&[u8]| many.iter().fold(0, |any, &level| any | (level ^ first)) == 0;
-        i += 64 * level[i..].chunks_exact(64).take_while(same).count();
+        if i - start > 64 {
+            let same = |many: &&[u8]| many.iter().fold(0, |any, &other| any | (other ^ level[start])) == 0;
+            i += 64 * level[i..].chunks_exact(64).take_while(same).count();
+        }
     }
-    i + level[i..].iter().take_while(|&&level| level == first).count()
+    for end in i..level.len() {
+        if level[end] != level[start] {
+            run(level[start], (end - start) as u32);
+            start = end;
+        }
+    }
+    run(level[start], (level.len() - start) as u32);
 }
 
 /// How many bytes a number has.
