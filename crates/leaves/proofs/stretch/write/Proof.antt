@@ -1,17 +1,18 @@
--- `write` meets its contract: column by column. Assumes nothing.
+-- `write` meets its contract: column by column, eight at once where there are eight. Assumes nothing.
+use mathlib.Core.Path.{sym}
 use borrow.Author.Needs.{needs}
-use Rattle.leaves.proofs.Stretches.{ran-all}
+use Rattle.leaves.proofs.Stretches.{ran-all, laid-all}
 use Rattle.leaves.proofs.stretch.write.Statement.{statement}
 use Rattle.leaves.proofs.stretch.write.Tie as tie
 
 in-roots-requires : tie.Need-in-roots-requires
-in-roots-requires c κs = (c .before .before .before .before .pre .1 .0)
+in-roots-requires c κs = search needs
 
 in-levels-requires : tie.Need-in-levels-requires
-in-levels-requires c κs = (c .before .before .before .before .before .before .before .before .pre .1 .1 .0)
+in-levels-requires c κs = search needs
 
 in-positions-requires : tie.Need-in-positions-requires
-in-positions-requires c κs = ((c .before .before .before .before .before .before .before .before .before .before .before .before .pre .0), (c .before .before .before .before .before .before .before .before .before .before .before .before .pre .1 .1 .1))
+in-positions-requires c κs = search needs
 
 same-length : tie.Need-same-length
 same-length c = search needs
@@ -23,7 +24,28 @@ same-length-3 : tie.Need-same-length-3
 same-length-3 c = search needs
 
 returns : tie.Need-returns
-returns c = ran-all (c .before .before .before .before .before .before .before .before .before .before .before .before .before .before .before .args .at) (c .before .before .before .before .before .before .before .before .before .before .before .before .before .before .before .args .root) (c .before .before .before .before .before .before .before .before .before .before .before .before .before .before .before .args .level) (c .before .before .before .before .before .before .before .before .before .before .before .before .before .before .before .args .position) (c .before .before .before .before .before .before .before .before .before .before .before .before .before .before .before .args .count) (c .before .before .before .before .before .before .before .before .before .before .in-roots .ensures) (c .before .before .before .before .before .before .in-levels .ensures) (c .before .before .in-positions .ensures)
+returns c = laid-all (c .before .before .before .before .before .before .before .before .before .before .before .before .before .before .before .before .args .root) (c .before .before .before .before .before .before .before .before .before .before .before .before .before .before .before .before .args .level) (c .before .before .before .before .before .before .before .before .before .before .before .before .before .before .before .before .args .position) 8 (c .before .before .before .before .before .before .before .before .before .before .before .before .before .before .before .before .args .count) (sym (c .before .before .before .before .before .before .before .before .before .before .before .before .if1 .taken)) (ran-all (c .before .before .before .before .before .before .before .before .before .before .before .before .before .before .before .before .args .at) (c .before .before .before .before .before .before .before .before .before .before .before .before .before .before .before .before .args .root) (c .before .before .before .before .before .before .before .before .before .before .before .before .before .before .before .before .args .level) (c .before .before .before .before .before .before .before .before .before .before .before .before .before .before .before .before .args .position) 8 (c .before .before .before .before .before .before .before .before .before .before .in-roots .ensures) (c .before .before .before .before .before .before .in-levels .ensures) (c .before .before .in-positions .ensures))
+
+in-roots-requires-2 : tie.Need-in-roots-requires-2
+in-roots-requires-2 c κs = search needs
+
+in-levels-requires-2 : tie.Need-in-levels-requires-2
+in-levels-requires-2 c κs = search needs
+
+in-positions-requires-2 : tie.Need-in-positions-requires-2
+in-positions-requires-2 c κs = search needs
+
+same-length-4 : tie.Need-same-length-4
+same-length-4 c = search needs
+
+same-length-5 : tie.Need-same-length-5
+same-length-5 c = search needs
+
+same-length-6 : tie.Need-same-length-6
+same-length-6 c = search needs
+
+returns-2 : tie.Need-returns-2
+returns-2 c = ran-all (c .before .before .before .before .before .before .before .before .before .before .before .before .before .before .before .before .args .at) (c .before .before .before .before .before .before .before .before .before .before .before .before .before .before .before .before .args .root) (c .before .before .before .before .before .before .before .before .before .before .before .before .before .before .before .before .args .level) (c .before .before .before .before .before .before .before .before .before .before .before .before .before .before .before .before .args .position) (c .before .before .before .before .before .before .before .before .before .before .before .before .before .before .before .before .args .count) (c .before .before .before .before .before .before .before .before .before .before .in-roots2 .ensures) (c .before .before .before .before .before .before .in-levels2 .ensures) (c .before .before .in-positions2 .ensures)
 
 pub write-spec : {M : Type 1} → statement M
 write-spec =
@@ -35,4 +57,11 @@ write-spec =
     same-length
     same-length-2
     same-length-3
-    returns)
+    returns
+    in-roots-requires-2
+    in-levels-requires-2
+    in-positions-requires-2
+    same-length-4
+    same-length-5
+    same-length-6
+    returns-2)
