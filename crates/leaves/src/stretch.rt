@@ -55,7 +55,13 @@ pub(crate) fn write(
     requires { ⌜ (position + count ≤ 18446744073709551615) × ((at + count ≤ length (now roots)) × ((at + count ≤ length (now levels)) × (at + count ≤ length (now positions)))) ⌝ }
     ensures { λ _. ⌜ Ran at (stretch root level position count) (now (roots .entry)) (now (levels .entry)) (now (positions .entry)) (now (roots .exit)) (now (levels .exit)) (now (positions .exit)) ⌝ }
 {
-    // Eight at a time, as many as a family of prisms has: a fixed number takes the machine a few stores.
+    // One, and eight at a time, as many as a family of prisms has: a fixed number takes the machine a few stores.
+    if count == 1 {
+        roots[at] = root;
+        levels[at] = level;
+        positions[at] = position;
+        return;
+    }
     if count == 8 {
         in_roots(at, 8, root, roots);
         in_levels(at, 8, level, levels);

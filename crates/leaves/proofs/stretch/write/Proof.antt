@@ -1,18 +1,24 @@
--- `write` meets its contract: column by column, eight at once where there are eight. Assumes nothing.
+-- `write` meets its contract: column by column; one, or eight at once, where there are so many. Assumes nothing.
 use mathlib.Core.Path.{sym}
 use borrow.Author.Needs.{needs}
-use Rattle.leaves.proofs.Stretches.{ran-all, laid-all}
+use Rattle.leaves.proofs.Stretches.{ran-all, laid-one, laid-all}
 use Rattle.leaves.proofs.stretch.write.Statement.{statement}
 use Rattle.leaves.proofs.stretch.write.Tie as tie
 
-in-roots-requires : tie.Need-in-roots-requires
-in-roots-requires c κs = search needs
+mul-roots : tie.Need-mul-roots
+mul-roots c = search needs
 
-in-levels-requires : tie.Need-in-levels-requires
-in-levels-requires c κs = search needs
+slice-write-roots : tie.Need-slice-write-roots
+slice-write-roots c = search needs
 
-in-positions-requires : tie.Need-in-positions-requires
-in-positions-requires c κs = search needs
+slice-write-levels : tie.Need-slice-write-levels
+slice-write-levels c = search needs
+
+mul-positions : tie.Need-mul-positions
+mul-positions c = search needs
+
+slice-write-positions : tie.Need-slice-write-positions
+slice-write-positions c = search needs
 
 same-length : tie.Need-same-length
 same-length c = search needs
@@ -24,16 +30,16 @@ same-length-3 : tie.Need-same-length-3
 same-length-3 c = search needs
 
 returns : tie.Need-returns
-returns c = laid-all (c .before .before .before .before .before .before .before .before .before .before .before .before .before .before .before .before .args .root) (c .before .before .before .before .before .before .before .before .before .before .before .before .before .before .before .before .args .level) (c .before .before .before .before .before .before .before .before .before .before .before .before .before .before .before .before .args .position) 8 (c .before .before .before .before .before .before .before .before .before .before .before .before .before .before .before .before .args .count) (sym (c .before .before .before .before .before .before .before .before .before .before .before .before .if1 .taken)) (ran-all (c .before .before .before .before .before .before .before .before .before .before .before .before .before .before .before .before .args .at) (c .before .before .before .before .before .before .before .before .before .before .before .before .before .before .before .before .args .root) (c .before .before .before .before .before .before .before .before .before .before .before .before .before .before .before .before .args .level) (c .before .before .before .before .before .before .before .before .before .before .before .before .before .before .before .before .args .position) 8 (c .before .before .before .before .before .before .before .before .before .before .in-roots .ensures) (c .before .before .before .before .before .before .in-levels .ensures) (c .before .before .in-positions .ensures))
+returns c = laid-one (c .before .before .before .before .args .at) (c .before .before .before .before .args .root) (c .before .before .before .before .args .level) (c .before .before .before .before .args .position) (c .before .before .before .before .args .count) (c .before .before .before .before .args .roots .now) (c .before .before .before .before .args .levels .now) (c .before .before .before .before .args .positions .now) (c .if1 .taken)
 
-in-roots-requires-2 : tie.Need-in-roots-requires-2
-in-roots-requires-2 c κs = search needs
+in-roots-requires : tie.Need-in-roots-requires
+in-roots-requires c κs = search needs
 
-in-levels-requires-2 : tie.Need-in-levels-requires-2
-in-levels-requires-2 c κs = search needs
+in-levels-requires : tie.Need-in-levels-requires
+in-levels-requires c κs = search needs
 
-in-positions-requires-2 : tie.Need-in-positions-requires-2
-in-positions-requires-2 c κs = search needs
+in-positions-requires : tie.Need-in-positions-requires
+in-positions-requires c κs = search needs
 
 same-length-4 : tie.Need-same-length-4
 same-length-4 c = search needs
@@ -45,23 +51,53 @@ same-length-6 : tie.Need-same-length-6
 same-length-6 c = search needs
 
 returns-2 : tie.Need-returns-2
-returns-2 c = ran-all (c .before .before .before .before .before .before .before .before .before .before .before .before .before .before .before .before .args .at) (c .before .before .before .before .before .before .before .before .before .before .before .before .before .before .before .before .args .root) (c .before .before .before .before .before .before .before .before .before .before .before .before .before .before .before .before .args .level) (c .before .before .before .before .before .before .before .before .before .before .before .before .before .before .before .before .args .position) (c .before .before .before .before .before .before .before .before .before .before .before .before .before .before .before .before .args .count) (c .before .before .before .before .before .before .before .before .before .before .in-roots2 .ensures) (c .before .before .before .before .before .before .in-levels2 .ensures) (c .before .before .in-positions2 .ensures)
+returns-2 c = laid-all (c .before .before .before .before .before .before .before .before .before .before .before .before .before .before .before .before .before .args .root) (c .before .before .before .before .before .before .before .before .before .before .before .before .before .before .before .before .before .args .level) (c .before .before .before .before .before .before .before .before .before .before .before .before .before .before .before .before .before .args .position) 8 (c .before .before .before .before .before .before .before .before .before .before .before .before .before .before .before .before .before .args .count) (sym (c .before .before .before .before .before .before .before .before .before .before .before .before .if2 .taken)) (ran-all (c .before .before .before .before .before .before .before .before .before .before .before .before .before .before .before .before .before .args .at) (c .before .before .before .before .before .before .before .before .before .before .before .before .before .before .before .before .before .args .root) (c .before .before .before .before .before .before .before .before .before .before .before .before .before .before .before .before .before .args .level) (c .before .before .before .before .before .before .before .before .before .before .before .before .before .before .before .before .before .args .position) 8 (c .before .before .before .before .before .before .before .before .before .before .in-roots .ensures) (c .before .before .before .before .before .before .in-levels .ensures) (c .before .before .in-positions .ensures))
+
+in-roots-requires-2 : tie.Need-in-roots-requires-2
+in-roots-requires-2 c κs = search needs
+
+in-levels-requires-2 : tie.Need-in-levels-requires-2
+in-levels-requires-2 c κs = search needs
+
+in-positions-requires-2 : tie.Need-in-positions-requires-2
+in-positions-requires-2 c κs = search needs
+
+same-length-7 : tie.Need-same-length-7
+same-length-7 c = search needs
+
+same-length-8 : tie.Need-same-length-8
+same-length-8 c = search needs
+
+same-length-9 : tie.Need-same-length-9
+same-length-9 c = search needs
+
+returns-3 : tie.Need-returns-3
+returns-3 c = ran-all (c .before .before .before .before .before .before .before .before .before .before .before .before .before .before .before .before .before .args .at) (c .before .before .before .before .before .before .before .before .before .before .before .before .before .before .before .before .before .args .root) (c .before .before .before .before .before .before .before .before .before .before .before .before .before .before .before .before .before .args .level) (c .before .before .before .before .before .before .before .before .before .before .before .before .before .before .before .before .before .args .position) (c .before .before .before .before .before .before .before .before .before .before .before .before .before .before .before .before .before .args .count) (c .before .before .before .before .before .before .before .before .before .before .in-roots2 .ensures) (c .before .before .before .before .before .before .in-levels2 .ensures) (c .before .before .in-positions2 .ensures)
 
 pub write-spec : {M : Type 1} → statement M
 write-spec =
     tie.close
     (tie.spec
-    in-roots-requires
-    in-levels-requires
-    in-positions-requires
+    mul-roots
+    slice-write-roots
+    slice-write-levels
+    mul-positions
+    slice-write-positions
     same-length
     same-length-2
     same-length-3
     returns
-    in-roots-requires-2
-    in-levels-requires-2
-    in-positions-requires-2
+    in-roots-requires
+    in-levels-requires
+    in-positions-requires
     same-length-4
     same-length-5
     same-length-6
-    returns-2)
+    returns-2
+    in-roots-requires-2
+    in-levels-requires-2
+    in-positions-requires-2
+    same-length-7
+    same-length-8
+    same-length-9
+    returns-3)
