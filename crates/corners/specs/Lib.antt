@@ -1,0 +1,2 @@
+pub mod CornerPoints
+pub mod Steps

@@ -1,0 +1,200 @@
+// What the call does: its last test, the corner within the root, and one coordinate at a time. Each function asks for just what
+// the tests before it have shown.
+use crate::Corner;
+use crate::Point;
+use crate::Root;
+use prism::Prism;
+ghost use mathlib.Core.Path.{_≡_};
+ghost use mathlib.Core.Bool.{true};
+ghost use Prim.Native.Nat.{_^_, _<_, _≤_};
+ghost use lib.IntN.{natAbs};
+ghost use Rattle.tree.specs.Laws.{Sound};
+ghost use Rattle.prism.specs.Elements.{prism};
+ghost use Rattle.prism.specs.Points as prisms;
+ghost use Rattle.corners.specs.CornerPoints.{within, cornerWithin, rootWithin, q, coordinate, pointAt};
+ghost use Rattle.corners.specs.Steps.{along, Near, Heights, mix, blend, xs, ys, zs, localOf, cornerOf, InRoot};
+
+// One coordinate of a root's six corners.
+pub(crate) struct Axis {
+    pub v0: i64,
+    pub v1: i64,
+    pub v2: i64,
+    pub v3: i64,
+    pub v4: i64,
+    pub v5: i64,
+}
+
+// Where a corner lies within the root, on the scale of its edge.
+pub(crate) struct Local {
+    pub x: u32,
+    pub y: u32,
+    pub z: u32,
+}
+
+fn within(v: i64) -> bool
+    ensures { λ r. ⌜ r ≡ within v ⌝ }
+{
+    if -512 <= v {
+        return v <= 512;
+    }
+    false
+}
+
+impl Corner {
+    fn within(self) -> bool
+        ensures { λ r. ⌜ r ≡ cornerWithin self ⌝ }
+    {
+        if !within(self.x) {
+            return false;
+        }
+        if !within(self.y) {
+            return false;
+        }
+        within(self.z)
+    }
+}
+
+impl Root {
+    // All eighteen numbers are from -512 to 512.
+    pub(crate) fn within(self) -> bool
+        ensures { λ r. ⌜ r ≡ rootWithin self ⌝ }
+    {
+        if !self.v0.within() {
+            return false;
+        }
+        if !self.v1.within() {
+            return false;
+        }
+        if !self.v2.within() {
+            return false;
+        }
+        if !self.v3.within() {
+            return false;
+        }
+        if !self.v4.within() {
+            return false;
+        }
+        self.v5.within()
+    }
+
+    fn xs(self) -> Axis
+        ensures { λ r. ⌜ r ≡ xs self ⌝ }
+    {
+        Axis {
+            v0: self.v0.x,
+            v1: self.v1.x,
+            v2: self.v2.x,
+            v3: self.v3.x,
+            v4: self.v4.x,
+            v5: self.v5.x,
+        }
+    }
+
+    fn ys(self) -> Axis
+        ensures { λ r. ⌜ r ≡ ys self ⌝ }
+    {
+        Axis {
+            v0: self.v0.y,
+            v1: self.v1.y,
+            v2: self.v2.y,
+            v3: self.v3.y,
+            v4: self.v4.y,
+            v5: self.v5.y,
+        }
+    }
+
+    fn zs(self) -> Axis
+        ensures { λ r. ⌜ r ≡ zs self ⌝ }
+    {
+        Axis {
+            v0: self.v0.z,
+            v1: self.v1.z,
+            v2: self.v2.z,
+            v3: self.v3.z,
+            v4: self.v4.z,
+            v5: self.v5.z,
+        }
+    }
+}
+
+// Corner 0 is the anchor, corner 2 lies a side further along x and y, corner 1 along x for type 0 and along y for type 1; 3 to 5 lie
+// a side higher.
+pub(crate) fn local_of(e: Prism, corner: u8) -> Local
+    requires { ⌜ (Sound prism e) × (corner < 6) ⌝ }
+    ensures { λ r. ⌜ r ≡ localOf (prisms.corner 21 e corner) ⌝ }
+{
+    let h = tree::side(e.level);
+    let z = e.z + (corner / 3) as u32 * h;
+    let far_x = e.x + h;
+    let far_y = e.y + h;
+    match 3 * e.kind + corner % 3 {
+        1 => Local {
+            x: far_x,
+            y: e.y,
+            z,
+        },
+        4 => Local {
+            x: e.x,
+            y: far_y,
+            z,
+        },
+        2 | 5 => Local {
+            x: far_x,
+            y: far_y,
+            z,
+        },
+        _ => Local { x: e.x, y: e.y, z },
+    }
+}
+
+// Tj: one coordinate at a height, on an edge that goes up from one corner to another.
+fn raised(low: i64, high: i64, z: u32) -> i64
+    requires { ⌜ (natAbs low ≤ 512) × ((natAbs high ≤ 512) × (z ≤ 2 ^ 21)) ⌝ }
+    ensures { λ r. ⌜ r ≡ mix low high z ⌝ }
+{
+    2097152 * low + (high - low) * z as i64
+}
+
+// Q, from the three at the height.
+fn blended(t0: i64, t1: i64, t2: i64, x: u32, y: u32) -> i64
+    requires { ⌜ Heights t0 t1 t2 × ((y ≤ x) × (x ≤ 2 ^ 21)) ⌝ }
+    ensures { λ r. ⌜ r ≡ blend t0 t1 t2 x y ⌝ }
+{
+    2097152 * t0 + (t1 - t0) * x as i64 + (t2 - t1) * y as i64
+}
+
+fn scaled(a: Axis, p: Local) -> i64
+    requires { ⌜ Near a × InRoot p ⌝ }
+    ensures { λ r. ⌜ r ≡ q (along a) (p .x) (p .y) (p .z) ⌝ }
+{
+    let t0 = raised(a.v0, a.v3, p.z);
+    let t1 = raised(a.v1, a.v4, p.z);
+    let t2 = raised(a.v2, a.v5, p.z);
+    blended(t0, t1, t2, p.x, p.y)
+}
+
+// Q / 2^42: Q is an f64 without loss, and times 2^-42 it keeps its digits.
+fn shrunk(q: i64) -> f64
+    requires { ⌜ natAbs q ≤ 2 ^ 51 ⌝ }
+    ensures { λ r. ⌜ r ≡ coordinate q ⌝ }
+{
+    q as f64 * 0.00000000000022737367544323205947875976562
+}
+
+fn measured(a: Axis, p: Local) -> f64
+    requires { ⌜ Near a × InRoot p ⌝ }
+    ensures { λ r. ⌜ r ≡ coordinate (q (along a) (p .x) (p .y) (p .z)) ⌝ }
+{
+    shrunk(scaled(a, p))
+}
+
+pub(crate) fn placed(root: Root, p: Local) -> Point
+    requires { ⌜ (rootWithin root ≡ true) × InRoot p ⌝ }
+    ensures { λ r. ⌜ r ≡ pointAt root (cornerOf p) ⌝ }
+{
+    Point {
+        x: measured(root.xs(), p),
+        y: measured(root.ys(), p),
+        z: measured(root.zs(), p),
+    }
+}
