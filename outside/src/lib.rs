@@ -6,8 +6,8 @@
 //! 2 anchor 2^21 or more or no multiple of the side, 3 type above 1, 4 outside the root. A line has only 1 and 2.
 //!
 //! [`plain`] has the same calls once more, unproved. It is the second opinion of the tests and the yardstick of the
-//! benchmark; programs use the methods of the three types, [`check_list`], [`uniform`], [`adapt`], [`balanced`] and
-//! [`shares`].
+//! benchmark; programs use the methods of the three types, [`corner_point`], [`check_list`], [`uniform`], [`adapt`],
+//! [`balanced`] and [`shares`].
 
 #![warn(missing_docs)]
 
@@ -17,9 +17,11 @@ mod answer;
 mod ffi;
 mod lists;
 pub mod plain;
+mod points;
 
 pub use answer::{Answer, Refusal};
 pub use lists::{adapt, balanced, check_list, shares, uniform};
+pub use points::{corner_point, Corner, Point, Root};
 
 /// The highest level of all three shapes.
 pub const HIGHEST_LEVEL: u8 = 21;

@@ -1,11 +1,11 @@
 -- The corners of an element lie within the root: its anchor does with a side to spare, and for type 1 y is below x by a side at least.
 -- Assumes nothing.
-use mathlib.Core.Path.{_≡_, refl, sym, ap, _∙_, subst⁻¹}
-use mathlib.Core.Logic.{_⊎_, inl, inr}
+use mathlib.Core.Path.{_≡_, sym, ap, ap₂, _∙_, subst⁻¹}
+use mathlib.Core.List.{List, [], _∷_}
 use Prim.Native.Nat.{ℕ, zero, suc, _+_, _*_, _/_, _%_, _^_, _≤_, _<_}
 use native.Mathlib.Nat.{mul-le-mul-right, add-mul, mod-lt}
 use native.Mathlib.Omega.{arith}
-use lib.Dec.{lit<}
+use lib.Dec.{lit<, lit≤}
 use lib.ListN.{getD}
 use Rattle.tree.specs.Anchors.{side}
 use Rattle.tree.specs.Laws.{Sound}
@@ -16,7 +16,8 @@ use Rattle.prism.specs.declared.Prism.{Prism}
 use Rattle.prism.specs.Elements.{prism, prismTo, triangleOf}
 use Rattle.prism.specs.Points as prisms
 use Rattle.prism.proofs.Laws.{grids}
-use Rattle.corners.specs.Steps.{localOf, InRoot}
+use Rattle.corners.specs.declared.work.Local.{Local}
+use Rattle.corners.specs.Steps.{CornerRow, localOf, InRoot}
 
 -- what the checks on an element leave room for
 pub record Room (e : Prism) (h : ℕ) : Type 0 where
@@ -42,6 +43,10 @@ room e sound =
       room-z = end-inside 21 (e .level) (e .z) (plan .shallow) (known .1);
     }
 
+-- so many sides further, none or one
+pub one-side : (n h a : ℕ) → n ≤ 1 → a + h ≤ 2 ^ 21 → (n * h ≤ 2 ^ 21) × (a + n * h ≤ 2 ^ 21)
+one-side n h a once inside = (omega (arith, mul-le-mul-right h once), omega (arith, mul-le-mul-right h once))
+
 -- the same with the side that the code found
 pub room-at : (e : Prism) (h : ℕ) → h ≡ side 21 (e .level) → Sound prism e → Room e h
 room-at e h same sound = subst⁻¹ (Room e) same (room e sound)
@@ -50,55 +55,44 @@ room-at e h same sound = subst⁻¹ (Room e) same (room e sound)
 abbrev planAt : ℕ → ℕ → ℕ → ℕ → ℕ → Point
 planAt t k h x y = getD (cornersBy t h x y) k (point 0 0)
 
-module _ (h x y : ℕ) where
-  pub along-x : (t k : ℕ) → 3 * t + k ≡ 1 → k < 3 → planAt t k h x y ≡ point (x + h) y
-  along-x zero zero e s = absurd (omega arith)
-  along-x zero (suc zero) e s = refl
-  along-x zero (suc (suc k)) e s = absurd (omega arith)
-  along-x (suc t) k e s = absurd (omega arith)
+-- the two rows of three that the code reads
+abbrev rows : List (List ℕ)
+rows = (0 ∷ 1 ∷ 3 ∷ []) ∷ (0 ∷ 2 ∷ 3 ∷ []) ∷ []
 
-  pub along-y : (t k : ℕ) → 3 * t + k ≡ 4 → k < 3 → planAt t k h x y ≡ point x (y + h)
-  along-y zero k e s = absurd (omega arith)
-  along-y (suc t) zero e s = absurd (omega arith)
-  along-y (suc t) (suc zero) e s = refl
-  along-y (suc t) (suc (suc k)) e s = absurd (omega arith)
+placed-by : (t k : ℕ) → t < 2 → k < 3 → (h x y : ℕ)
+    → planAt t k h x y ≡ point (x + getD (getD rows t []) k 0 % 2 * h) (y + getD (getD rows t []) k 0 / 2 * h)
+placed-by zero zero a b h x y = ap₂ point (omega arith) (omega arith)
+placed-by zero (suc zero) a b h x y = ap₂ point (omega arith) (omega arith)
+placed-by zero (suc (suc zero)) a b h x y = ap₂ point (omega arith) (omega arith)
+placed-by zero (suc (suc (suc k))) a b h x y = absurd (omega arith)
+placed-by (suc zero) zero a b h x y = ap₂ point (omega arith) (omega arith)
+placed-by (suc zero) (suc zero) a b h x y = ap₂ point (omega arith) (omega arith)
+placed-by (suc zero) (suc (suc zero)) a b h x y = ap₂ point (omega arith) (omega arith)
+placed-by (suc zero) (suc (suc (suc k))) a b h x y = absurd (omega arith)
+placed-by (suc (suc t)) k a b h x y = absurd (omega arith)
 
-  pub along-both : (k t : ℕ) → k ≡ 2 → planAt t k h x y ≡ point (x + h) (y + h)
-  along-both zero t e = absurd (omega arith)
-  along-both (suc zero) t e = absurd (omega arith)
-  along-both (suc (suc zero)) zero e = refl
-  along-both (suc (suc zero)) (suc t) e = refl
-  along-both (suc (suc (suc k))) t e = absurd (omega arith)
+narrow-by : (t k : ℕ) → t < 2 → k < 3 → getD (getD rows t []) k 0 ≤ 3
+narrow-by zero zero a b = lit≤ tt
+narrow-by zero (suc zero) a b = lit≤ tt
+narrow-by zero (suc (suc zero)) a b = lit≤ tt
+narrow-by zero (suc (suc (suc k))) a b = absurd (omega arith)
+narrow-by (suc zero) zero a b = lit≤ tt
+narrow-by (suc zero) (suc zero) a b = lit≤ tt
+narrow-by (suc zero) (suc (suc zero)) a b = lit≤ tt
+narrow-by (suc zero) (suc (suc (suc k))) a b = absurd (omega arith)
+narrow-by (suc (suc t)) k a b = absurd (omega arith)
 
-  pub anchored : (k t : ℕ) → k ≡ 0 → planAt t k h x y ≡ point x y
-  anchored zero zero e = refl
-  anchored zero (suc t) e = refl
-  anchored (suc k) t e = absurd (omega arith)
-
--- the two numbers of the far corner, by type
-pub far : (t k : ℕ) → t < 2 → k < 3 → (3 * t + k ≡ 2) ⊎ (3 * t + k ≡ 5) → k ≡ 2
-far t k a b (inl e) = omega arith
-far t k a b (inr e) = omega arith
-
--- none of the others
-pub first : (t k : ℕ) → t < 2 → k < 3 → (3 * t + k ≡ 1 → ⊥) → (3 * t + k ≡ 4 → ⊥) → ((3 * t + k ≡ 2) ⊎ (3 * t + k ≡ 5) → ⊥) → k ≡ 0
-first zero zero a b one four rest = refl
-first zero (suc zero) a b one four rest = absurd (one refl)
-first zero (suc (suc zero)) a b one four rest = absurd (rest (inl refl))
-first zero (suc (suc (suc k))) a b one four rest = absurd (omega arith)
-first (suc zero) zero a b one four rest = refl
-first (suc zero) (suc zero) a b one four rest = absurd (four refl)
-first (suc zero) (suc (suc zero)) a b one four rest = absurd (rest (inr refl))
-first (suc zero) (suc (suc (suc k))) a b one four rest = absurd (omega arith)
-first (suc (suc t)) k a b one four rest = absurd (omega arith)
+pub corner-row : (t k : ℕ) → t < 2 → k < 3 → CornerRow t k (getD (getD rows t []) k 0)
+corner-row t k a b = record { narrow = narrow-by t k a b; placed = placed-by t k a b }
 
 -- ---- as a local corner
-pub found : (e : Prism) (i h : ℕ) (p : Point) → h ≡ side 21 (e .level) → planAt (e .kind) (i % 3) h (e .x) (e .y) ≡ p
-    → record { x = p .x; y = p .y; z = e .z + i / 3 * h } ≡ localOf (prisms.corner 21 e i)
-found e i h p same row =
-    let plan : planAt (e .kind) (i % 3) (side 21 (e .level)) (e .x) (e .y) ≡ p =
-    ap (λ (k : ℕ). planAt (e .kind) (i % 3) k (e .x) (e .y)) (sym same) ∙ row in
-    λ j. record { x = sym plan j .x; y = sym plan j .y; z = ap (λ (k : ℕ). e .z + i / 3 * k) same j }
+pub found : (e : Prism) (i h s : ℕ) → h ≡ side 21 (e .level) → CornerRow (e .kind) (i % 3) s
+    → record { x = e .x + s % 2 * h; y = e .y + s / 2 * h; z = e .z + i / 3 * h } ≡ localOf (prisms.corner 21 e i)
+found e i h s same row =
+    let at-h : (k : ℕ) → point (e .x + s % 2 * k) (e .y + s / 2 * k) ≡ planAt (e .kind) (i % 3) k (e .x) (e .y) =
+    λ k. sym (row .placed k (e .x) (e .y)) in
+    let lifted : ℕ → Point → Local = λ k p. record { x = p .x; y = p .y; z = e .z + i / 3 * k } in
+    ap (lifted h) (at-h h) ∙ ap (λ (k : ℕ). lifted k (planAt (e .kind) (i % 3) k (e .x) (e .y))) same
 
 inside-plan : (t k h x y : ℕ) → t < 2 → k < 3 → y + t * h ≤ x → x + h ≤ 2 ^ 21
     → (planAt t k h x y .y ≤ planAt t k h x y .x) × (planAt t k h x y .x ≤ 2 ^ 21)

@@ -2,17 +2,19 @@
 --
 --   Axis            one coordinate of a root's six corners; along a is its vj
 --   Local           local (X, Y, Z); at is its corner
+--   CornerRow       where a corner of a triangle lies, counted in sides from the anchor
 --   InRoot          "Inside the root": Y <= X, none past the edge
 --   Near            the six numbers are from -512 to 512
 --   mix, Heights    one Tj from its two corners; what is known of the three: from -2^30 to 2^30
 --   blend           Q from the three
 --
 -- Assumes nothing.
+use mathlib.Core.Path.{_≡_}
 use mathlib.Core.List.{[], _∷_}
-use Prim.Native.Nat.{ℕ, _^_, _≤_}
+use Prim.Native.Nat.{ℕ, _+_, _*_, _/_, _%_, _^_, _≤_}
 use lib.IntN.{ℤ, pos, natAbs, _+ℤ_, _-ℤ_, _*ℤ_}
 use lib.ListN.{getD}
-use Rattle.triangle.specs.Points.{point}
+use Rattle.triangle.specs.Points.{point, cornersBy}
 use Rattle.prism.specs.Points.{lifted}
 use Rattle.prism.specs.Points as prisms
 use Rattle.corners.specs.declared.Root.{Root}
@@ -49,6 +51,11 @@ ys r = record { v0 = r .v0 .y; v1 = r .v1 .y; v2 = r .v2 .y; v3 = r .v3 .y; v4 =
 
 abbrev pub zs : Root → Axis
 zs r = record { v0 = r .v0 .z; v1 = r .v1 .z; v2 = r .v2 .z; v3 = r .v3 .z; v4 = r .v4 .z; v5 = r .v5 .z }
+
+-- corner k of a triangle of type t lies s % 2 sides along x and s / 2 along y from the anchor
+pub record CornerRow (t k s : ℕ) : Type 0 where
+  pub narrow : s ≤ 3
+  pub placed : (h x y : ℕ) → getD (cornersBy t h x y) k (point 0 0) ≡ point (x + s % 2 * h) (y + s / 2 * h)
 
 abbrev pub localOf : prisms.Corner → Local
 localOf c = record { x = c .plan .x; y = c .plan .y; z = c .height }

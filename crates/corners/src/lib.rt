@@ -42,16 +42,21 @@ pub enum PointAnswer {
 pub fn corner_point(level: u8, position: u64, corner: u8, root: Root) -> PointAnswer
     ensures { λ r. ⌜ pointOf r ≡ cornerPoint level position corner root ⌝ }
 {
-    match Prism::at(level, position) {
-        PrismAnswer::Is(e) => {
-            if Prism::CORNERS <= corner {
-                return PointAnswer::Refused(8, 0);
-            }
-            if !root.within() {
-                return PointAnswer::Refused(24, 0);
-            }
-            PointAnswer::Is(work::placed(root, work::local_of(e, corner)))
-        }
-        PrismAnswer::Refused(number, place) => PointAnswer::Refused(number, place),
+    if 21 < level {
+        return PointAnswer::Refused(1, 0);
     }
+    if 1u64 << (3 * level) <= position {
+        return PointAnswer::Refused(5, 0);
+    }
+    if Prism::CORNERS <= corner {
+        return PointAnswer::Refused(8, 0);
+    }
+    if !root.within() {
+        return PointAnswer::Refused(24, 0);
+    }
+    // The position is one of the level's, so there is an element.
+    let PrismAnswer::Is(e) = Prism::at(level, position) else {
+        return PointAnswer::Refused(5, 0);
+    };
+    PointAnswer::Is(work::placed(root, work::local_of(e, corner)))
 }

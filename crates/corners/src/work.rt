@@ -12,7 +12,7 @@ ghost use Rattle.tree.specs.Laws.{Sound};
 ghost use Rattle.prism.specs.Elements.{prism};
 ghost use Rattle.prism.specs.Points as prisms;
 ghost use Rattle.corners.specs.CornerPoints.{within, cornerWithin, rootWithin, q, coordinate, pointAt};
-ghost use Rattle.corners.specs.Steps.{along, Near, Heights, mix, blend, xs, ys, zs, localOf, cornerOf, InRoot};
+ghost use Rattle.corners.specs.Steps.{along, Near, Heights, mix, blend, xs, ys, zs, CornerRow, localOf, cornerOf, InRoot};
 
 // One coordinate of a root's six corners.
 pub(crate) struct Axis {
@@ -117,34 +117,30 @@ impl Root {
     }
 }
 
-// Corner 0 is the anchor, corner 2 lies a side further along x and y, corner 1 along x for type 0 and along y for type 1; 3 to 5 lie
-// a side higher.
+// The corners of a triangle in sides from the anchor, x + 2·y: two rows of three by type. A table, since a branch would wait for the
+// type, which is known last.
+const CORNER: [[u8; 3]; 2] = [[0, 1, 3], [0, 2, 3]];
+
+fn sides(kind: u8, number: u8) -> u32
+    requires { ⌜ (kind < 2) × (number < 3) ⌝ }
+    ensures { λ r. ⌜ CornerRow kind number r ⌝ }
+{
+    let t = kind as usize;
+    let i = number as usize;
+    CORNER[t][i] as u32
+}
+
+// A corner of an element: that of its triangle, 0 to 2 at z, 3 to 5 at z + h.
 pub(crate) fn local_of(e: Prism, corner: u8) -> Local
     requires { ⌜ (Sound prism e) × (corner < 6) ⌝ }
     ensures { λ r. ⌜ r ≡ localOf (prisms.corner 21 e corner) ⌝ }
 {
     let h = tree::side(e.level);
+    let s = sides(e.kind, corner % 3);
+    let x = e.x + s % 2 * h;
+    let y = e.y + s / 2 * h;
     let z = e.z + (corner / 3) as u32 * h;
-    let far_x = e.x + h;
-    let far_y = e.y + h;
-    match 3 * e.kind + corner % 3 {
-        1 => Local {
-            x: far_x,
-            y: e.y,
-            z,
-        },
-        4 => Local {
-            x: e.x,
-            y: far_y,
-            z,
-        },
-        2 | 5 => Local {
-            x: far_x,
-            y: far_y,
-            z,
-        },
-        _ => Local { x: e.x, y: e.y, z },
-    }
+    Local { x, y, z }
 }
 
 // Tj: one coordinate at a height, on an edge that goes up from one corner to another.

@@ -2,10 +2,12 @@
 // `specs/Results.antt` says how, and each contract is that of the call.
 mod line_calls;
 mod list_calls;
+mod point_calls;
 mod prism_calls;
 mod results;
 mod triangle_calls;
 
+use corners::Point;
 use line::Line;
 use prism::Prism;
 use triangle::Triangle;
@@ -38,4 +40,10 @@ pub struct NumberResult {
 pub struct OrderResult {
     pub refusal: u64,
     pub value: i32,
+}
+
+#[repr(C)]
+pub struct PointResult {
+    pub refusal: u64,
+    pub value: Point,
 }

@@ -2,8 +2,11 @@
 use crate::LineResult;
 use crate::NumberResult;
 use crate::OrderResult;
+use crate::PointResult;
 use crate::PrismResult;
 use crate::TriangleResult;
+use corners::Point;
+use corners::PointAnswer;
 use line::Line;
 use line::LineAnswer;
 use paper::NumberAnswer;
@@ -17,10 +20,11 @@ use triangle::TriangleAnswer;
 ghost use mathlib.Core.Path.{_≡_};
 ghost use Prim.Native.Nat.{_+_, _*_, _%_, _^_};
 ghost use Rattle.paper.specs.Readings.{valueOf, truthOf, orderOf, passOf};
+ghost use Rattle.corners.specs.CornerPoints.{pointOf};
 ghost use Rattle.line.specs.Elements as lines;
 ghost use Rattle.triangle.specs.Elements as triangles;
 ghost use Rattle.prism.specs.Elements as prisms;
-ghost use Rattle.interface.specs.Results.{lineResult, triangleResult, prismResult, numberResult, truthResult, orderResult, passResult};
+ghost use Rattle.interface.specs.Results.{lineResult, triangleResult, prismResult, numberResult, truthResult, orderResult, passResult, pointResult};
 
 // The word of a refusal.
 fn word(number: u8, place: u64) -> u64
@@ -152,5 +156,24 @@ pub(crate) fn of_pass(a: PassAnswer) -> u64
     match a {
         PassAnswer::Passed => 0,
         PassAnswer::Refused(number, place) => word(number, place),
+    }
+}
+
+pub(crate) fn of_point(a: PointAnswer) -> PointResult
+    ensures { λ r. ⌜ r ≡ pointResult (pointOf a) ⌝ }
+{
+    match a {
+        PointAnswer::Is(p) => PointResult {
+            refusal: 0,
+            value: p,
+        },
+        PointAnswer::Refused(number, place) => PointResult {
+            refusal: word(number, place),
+            value: Point {
+                x: 0.0,
+                y: 0.0,
+                z: 0.0,
+            },
+        },
     }
 }

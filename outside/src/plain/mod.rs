@@ -9,6 +9,7 @@ pub mod adaption;
 pub mod balance;
 pub mod line;
 pub mod list;
+pub mod point;
 pub mod prism;
 pub mod shares;
 pub mod triangle;
