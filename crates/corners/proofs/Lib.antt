@@ -4,5 +4,8 @@ pub mod MachineWords
 pub mod Exact
 pub mod Conjunctions
 pub mod Roots
-pub mod InsideRoot
+pub mod LocalCorners
 pub mod Call
+pub mod RootCorners
+pub mod Promised
+pub mod Controls

@@ -11,7 +11,8 @@ use borrow.Author.Tests.{leb-true}
 use Rattle.corners.specs.declared.work.Axis.{Axis}
 use Rattle.corners.specs.declared.work.Local.{Local}
 use Rattle.corners.specs.CornerPoints.{within, q}
-use Rattle.corners.specs.Steps.{along, Near, mix, Heights, blend, InRoot}
+use Rattle.corners.specs.Laws.{InsideRoot}
+use Rattle.corners.specs.Steps.{along, Near, mix, Heights, blend, cornerOf}
 use Rattle.corners.proofs.Differences.{Is, add, mul, sub, mul-right, rename, bound}
 
 -- z is from -k to k: moved up by k it is `up`
@@ -90,7 +91,7 @@ blend-bound t0 t1 t2 X Y tall ordered inside =
     rw back at (mean t0 t1 t2 Y (X - Y) (edge - X) tall (omega arith))
 
 -- one coordinate of a point within the root
-pub axis-bound : (a : Axis) (p : Local) → Near a → InRoot p → natAbs (q (along a) (p .x) (p .y) (p .z)) ≤ 2 ^ 51
+pub axis-bound : (a : Axis) (p : Local) → Near a → InsideRoot (cornerOf p) → natAbs (q (along a) (p .x) (p .y) (p .z)) ≤ 2 ^ 51
 axis-bound a p n inside =
     blend-bound (mix (a .v0) (a .v3) (p .z)) (mix (a .v1) (a .v4) (p .z)) (mix (a .v2) (a .v5) (p .z)) (p .x) (p .y)
     (record {

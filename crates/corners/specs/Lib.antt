@@ -1,2 +1,3 @@
 pub mod CornerPoints
 pub mod Steps
+pub mod Laws

@@ -3,7 +3,6 @@
 --   Axis            one coordinate of a root's six corners; along a is its vj
 --   Local           local (X, Y, Z); at is its corner
 --   CornerRow       where a corner of a triangle lies, counted in sides from the anchor
---   InRoot          "Inside the root": Y <= X, none past the edge
 --   Near            the six numbers are from -512 to 512
 --   mix, Heights    one Tj from its two corners; what is known of the three: from -2^30 to 2^30
 --   blend           Q from the three
@@ -62,8 +61,3 @@ localOf c = record { x = c .plan .x; y = c .plan .y; z = c .height }
 
 abbrev pub cornerOf : Local → prisms.Corner
 cornerOf p = lifted (p .z) (point (p .x) (p .y))
-
-pub record InRoot (p : Local) : Type 0 where
-  pub ordered : p .y ≤ p .x
-  pub across : p .x ≤ 2 ^ 21
-  pub upwards : p .z ≤ 2 ^ 21

@@ -12,8 +12,9 @@ use Rattle.prism.specs.Elements.{prism}
 use Rattle.prism.specs.Points as prisms
 use Rattle.corners.specs.declared.work.Local.{Local}
 use Rattle.corners.specs.CornerPoints.{pointAt}
-use Rattle.corners.specs.Steps.{cornerOf, InRoot}
-use Rattle.corners.proofs.InsideRoot.{corner-inside}
+use Rattle.corners.specs.Laws.{InsideRoot}
+use Rattle.corners.specs.Steps.{cornerOf}
+use Rattle.corners.proofs.LocalCorners.{corner-inside}
 use Rattle.corners.proofs.Call.{point-refused-1, point-refused-5, point-refused-8, point-refused-24, point-accepted, element-is, element-never, element-sound}
 use Rattle.corners.proofs.corner_point.Statement.{statement}
 use Rattle.corners.proofs.corner_point.Tie as tie
@@ -91,7 +92,7 @@ placed-requires c κs =
     let below : p < 8 ^ l = rw (shifted-power 3 l (omega arith)) at (c .before .before .before .before .before .before .before .before .if2 .left) in
     let sound = subst⁻¹ (Sound prism) (element-is l p (c .before .before .before .before .before .before .before .before .before .if1 .left) below (c .before .before .before .before .at .result) _ (c .before .before .e .given .1) (c .before .before .before .before .at .ensures)) (element-sound l p (c .before .before .before .before .before .before .before .before .before .if1 .left) below) in (
       sym (c .before .before .before .before .before .before .within .ensures) ∙ not-false _ (c .before .before .before .before .before .if4 .left),
-      subst⁻¹ InRoot (c .local-of .ensures) (corner-inside _ (c .before .before .before .before .before .before .before .before .before .before .args .corner) sound (c .before .before .before .before .before .before .before .if3 .left)),
+      subst⁻¹ (λ (k : Local). InsideRoot (cornerOf k)) (c .local-of .ensures) (corner-inside _ (c .before .before .before .before .before .before .before .before .before .before .args .corner) sound (c .before .before .before .before .before .before .before .if3 .left)),
     )
 
 returns-6 : tie.Need-returns-6

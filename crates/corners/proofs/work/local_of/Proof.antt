@@ -4,7 +4,7 @@ use native.Mathlib.Nat.{mod-lt}
 use native.Mathlib.Omega.{arith}
 use lib.Dec.{lit<}
 use borrow.Author.Needs.{needs}
-use Rattle.corners.proofs.InsideRoot.{room-at, one-side, found}
+use Rattle.corners.proofs.LocalCorners.{room-at, one-side, found}
 use Rattle.corners.proofs.work.local_of.Statement.{statement}
 use Rattle.corners.proofs.work.local_of.Tie as tie
 

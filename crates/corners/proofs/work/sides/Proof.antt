@@ -1,7 +1,7 @@
 -- `sides` meets its contract: its table is the two rows of corners, six entries, computed. Assumes nothing.
 use native.Mathlib.Omega.{arith}
 use borrow.Author.Needs.{needs}
-use Rattle.corners.proofs.InsideRoot.{corner-row}
+use Rattle.corners.proofs.LocalCorners.{corner-row}
 use Rattle.corners.proofs.work.sides.Statement.{statement}
 use Rattle.corners.proofs.work.sides.Tie as tie
 

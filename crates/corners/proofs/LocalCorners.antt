@@ -17,7 +17,8 @@ use Rattle.prism.specs.Elements.{prism, prismTo, triangleOf}
 use Rattle.prism.specs.Points as prisms
 use Rattle.prism.proofs.Laws.{grids}
 use Rattle.corners.specs.declared.work.Local.{Local}
-use Rattle.corners.specs.Steps.{CornerRow, localOf, InRoot}
+use Rattle.corners.specs.Laws.{InsideRoot}
+use Rattle.corners.specs.Steps.{CornerRow, localOf}
 
 -- what the checks on an element leave room for
 pub record Room (e : Prism) (h : ℕ) : Type 0 where
@@ -106,7 +107,7 @@ inside-plan (suc zero) (suc (suc zero)) h x y a b c d = (omega arith, omega arit
 inside-plan (suc zero) (suc (suc (suc k))) h x y a b c d = absurd (omega arith)
 inside-plan (suc (suc t)) k h x y a b c d = absurd (omega arith)
 
-pub corner-inside : (e : Prism) (i : ℕ) → Sound prism e → i < 6 → InRoot (localOf (prisms.corner 21 e i))
+pub corner-inside : (e : Prism) (i : ℕ) → Sound prism e → i < 6 → InsideRoot (prisms.corner 21 e i)
 corner-inside e i sound small =
     let h = side 21 (e .level) in
     let r = room e sound in
