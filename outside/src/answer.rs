@@ -7,7 +7,7 @@ use std::fmt;
 /// how many entries the columns need.
 #[derive(Clone, Copy, Debug, PartialEq, Eq, Hash)]
 pub struct Refusal {
-    /// The number, 1 to 17.
+    /// The number, 1 to 24.
     pub number: u8,
     /// The place.
     pub place: u64,

@@ -35,8 +35,11 @@ corner r j = getD (r .v0 ∷ r .v1 ∷ r .v2 ∷ r .v3 ∷ r .v4 ∷ r .v5 ∷ [
 abbrev pub within : ℤ → Bool
 within v = leZ (negsuc 511) v && leZ v (pos 512)
 
+abbrev pub allWithin : ℤ → ℤ → ℤ → Bool
+allWithin x y z = within x && (within y && within z)
+
 abbrev pub cornerWithin : Corner → Bool
-cornerWithin c = within (c .x) && (within (c .y) && within (c .z))
+cornerWithin c = allWithin (c .x) (c .y) (c .z)
 
 abbrev pub rootWithin : Root → Bool
 rootWithin r =

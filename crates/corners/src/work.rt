@@ -1,6 +1,5 @@
 // What the call does: its last test, the corner within the root, and one coordinate at a time. Each function asks for just what
 // the tests before it have shown.
-use crate::Corner;
 use crate::Point;
 use crate::Root;
 use prism::Prism;
@@ -11,7 +10,7 @@ ghost use lib.IntN.{natAbs};
 ghost use Rattle.tree.specs.Laws.{Sound};
 ghost use Rattle.prism.specs.Elements.{prism};
 ghost use Rattle.prism.specs.Points as prisms;
-ghost use Rattle.corners.specs.CornerPoints.{within, cornerWithin, rootWithin, q, coordinate, pointAt};
+ghost use Rattle.corners.specs.CornerPoints.{within, allWithin, rootWithin, q, coordinate, pointAt};
 ghost use Rattle.corners.specs.Laws.{InsideRoot};
 ghost use Rattle.corners.specs.Steps.{along, Near, Heights, mix, blend, xs, ys, zs, CornerRow, localOf, cornerOf};
 
@@ -41,18 +40,17 @@ fn within(v: i64) -> bool
     false
 }
 
-impl Corner {
-    fn within(self) -> bool
-        ensures { λ r. ⌜ r ≡ cornerWithin self ⌝ }
-    {
-        if !within(self.x) {
-            return false;
-        }
-        if !within(self.y) {
-            return false;
-        }
-        within(self.z)
+// The three numbers of a corner.
+fn all_within(x: i64, y: i64, z: i64) -> bool
+    ensures { λ r. ⌜ r ≡ allWithin x y z ⌝ }
+{
+    if !within(x) {
+        return false;
     }
+    if !within(y) {
+        return false;
+    }
+    within(z)
 }
 
 impl Root {
@@ -60,22 +58,22 @@ impl Root {
     pub(crate) fn within(self) -> bool
         ensures { λ r. ⌜ r ≡ rootWithin self ⌝ }
     {
-        if !self.v0.within() {
+        if !all_within(self.v0.x, self.v0.y, self.v0.z) {
             return false;
         }
-        if !self.v1.within() {
+        if !all_within(self.v1.x, self.v1.y, self.v1.z) {
             return false;
         }
-        if !self.v2.within() {
+        if !all_within(self.v2.x, self.v2.y, self.v2.z) {
             return false;
         }
-        if !self.v3.within() {
+        if !all_within(self.v3.x, self.v3.y, self.v3.z) {
             return false;
         }
-        if !self.v4.within() {
+        if !all_within(self.v4.x, self.v4.y, self.v4.z) {
             return false;
         }
-        self.v5.within()
+        all_within(self.v5.x, self.v5.y, self.v5.z)
     }
 
     fn xs(self) -> Axis
@@ -122,13 +120,13 @@ impl Root {
 // type, which is known last.
 const CORNER: [[u8; 3]; 2] = [[0, 1, 3], [0, 2, 3]];
 
-fn sides(kind: u8, number: u8) -> u32
+fn sides(kind: u8, number: u8) -> u8
     requires { ⌜ (kind < 2) × (number < 3) ⌝ }
     ensures { λ r. ⌜ CornerRow kind number r ⌝ }
 {
     let t = kind as usize;
     let i = number as usize;
-    CORNER[t][i] as u32
+    CORNER[t][i]
 }
 
 // A corner of an element: that of its triangle, 0 to 2 at z, 3 to 5 at z + h.
@@ -137,7 +135,7 @@ pub(crate) fn local_of(e: Prism, corner: u8) -> Local
     ensures { λ r. ⌜ r ≡ localOf (prisms.corner 21 e corner) ⌝ }
 {
     let h = tree::side(e.level);
-    let s = sides(e.kind, corner % 3);
+    let s = sides(e.kind, corner % 3) as u32;
     let x = e.x + s % 2 * h;
     let y = e.y + s / 2 * h;
     let z = e.z + (corner / 3) as u32 * h;

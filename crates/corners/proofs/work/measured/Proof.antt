@@ -15,13 +15,13 @@ scaled-requires c κs = search needs
 
 shrunk-requires : tie.Need-shrunk-requires
 shrunk-requires c κs =
-    let small = axis-bound (c .before .args .a) (c .before .args .p) ((c .before .pre .0)) ((c .before .pre .1)) in
+    let small = axis-bound (c .before .args .a) (c .before .args .p) (c .before .pre .0) (c .before .pre .1) in
     subst⁻¹ (λ (z : ℤ). natAbs z ≤ 2 ^ 51) (kept (2 ^ 51) (c .scaled .ensures) small (lit≤ tt)) small
 
 returns : tie.Need-returns
 returns c =
     (c .shrunk .ensures)
-    ∙ ap coordinate (kept (2 ^ 51) (c .before .scaled .ensures) (axis-bound (c .before .before .args .a) (c .before .before .args .p) ((c .before .before .pre .0)) ((c .before .before .pre .1))) (lit≤ tt))
+    ∙ ap coordinate (kept (2 ^ 51) (c .before .scaled .ensures) (axis-bound (c .before .before .args .a) (c .before .before .args .p) (c .before .before .pre .0) (c .before .before .pre .1)) (lit≤ tt))
 
 pub measured-spec : {M : Type 1} → statement M
 measured-spec = tie.close (tie.spec scaled-requires shrunk-requires returns)

@@ -13,19 +13,19 @@ xs-requires : tie.Need-xs-requires
 xs-requires c κs = search needs
 
 measured-requires : tie.Need-measured-requires
-measured-requires c κs = (subst⁻¹ Near (c .xs .ensures) (near-xs (c .before .args .root) ((c .before .pre .0))), (c .before .pre .1))
+measured-requires c κs = (subst⁻¹ Near (c .xs .ensures) (near-xs (c .before .args .root) (c .before .pre .0)), (c .before .pre .1))
 
 ys-requires : tie.Need-ys-requires
 ys-requires c κs = search needs
 
 measured-requires-2 : tie.Need-measured-requires-2
-measured-requires-2 c κs = (subst⁻¹ Near (c .ys .ensures) (near-ys (c .before .before .before .args .root) ((c .before .before .before .pre .0))), (c .before .before .before .pre .1))
+measured-requires-2 c κs = (subst⁻¹ Near (c .ys .ensures) (near-ys (c .before .before .before .args .root) (c .before .before .before .pre .0)), (c .before .before .before .pre .1))
 
 zs-requires : tie.Need-zs-requires
 zs-requires c κs = search needs
 
 measured-requires-3 : tie.Need-measured-requires-3
-measured-requires-3 c κs = (subst⁻¹ Near (c .zs .ensures) (near-zs (c .before .before .before .before .before .args .root) ((c .before .before .before .before .before .pre .0))), (c .before .before .before .before .before .pre .1))
+measured-requires-3 c κs = (subst⁻¹ Near (c .zs .ensures) (near-zs (c .before .before .before .before .before .args .root) (c .before .before .before .before .before .pre .0)), (c .before .before .before .before .before .pre .1))
 
 returns : tie.Need-returns
 returns c =
