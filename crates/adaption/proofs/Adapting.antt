@@ -14,7 +14,8 @@ use Rattle.leaves.specs.Calls.{outOfRange, equalColumns, listed}
 use Rattle.leaves.proofs.Listed.{at-leaves, leaves-length, columns-sound, listed-passed, listed-refused}
 use Rattle.adaption.specs.Adaption.{mark, adapted}
 use Rattle.adaption.specs.Calls.{marked, sized, adaption, Adapted}
-use Rattle.adaption.specs.Pass.{Ready, Passed}
+use Rattle.leaves.specs.Stretch.{Passed}
+use Rattle.adaption.specs.Pass.{Ready}
 use Rattle.adaption.proofs.Marked.{marked-passed, marked-refused, refined-above, mark-known, ready}
 use Rattle.paper.specs.declared.NumberAnswer.the-variants as number
 

@@ -31,5 +31,5 @@ module _ (n : ℕ) (positive : 0 < n) (rs ls ps ms : List ℕ) (ready : Ready n 
       subst (λ (p : ℕ). n * p + n ≤ 2 ^ 63) (position-at n positive rs ls ps ms i inside)
       (ready .narrow i within (turn-at n positive (leaves rs ls ps) ms i within clear .refines (sym is-turn ∙ one)))
 
-  pub position-low : getD ps i 0 < 2 ^ 64
+  pub position-low : getD ps i 0 < 2 ^ 63
   position-low = omega (arith, ready .low i within, position-at n positive rs ls ps ms i inside)

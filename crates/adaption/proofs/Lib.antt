@@ -3,7 +3,6 @@ pub mod Gives
 pub mod Turns
 pub mod Sound
 pub mod Width
-pub mod Running
 pub mod Beginning
 pub mod Passing
 pub mod Fitting

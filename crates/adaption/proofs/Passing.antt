@@ -1,21 +1,21 @@
 -- The pass on its way: the turns before leaf i have made the first leaves of the result, in order, and the turn at i makes the next. So many
 -- are counted, and so many are written. Assumes nothing.
 use mathlib.Core.Path.{_≡_, refl, ap, ap₂, _∙_, sym, subst, subst⁻¹}
-use mathlib.Core.List.{List, [], _++_, map, map-append, append-nil, append-assoc}
+use mathlib.Core.List.{List, [], _++_, append-nil, append-assoc}
 use Prim.Native.Nat.{ℕ, _+_, _*_, _^_, _≤_, _<_}
 use native.Mathlib.Nat.{sub-zero, add-mul, one-mul, le-trans, mul-le-mul-right, div-le-self}
 use native.Mathlib.Decide.{ℕ-discrete}
 use native.Mathlib.Omega.{arith}
-use lib.ListN.{length, length-append, length-map}
-use lib.Seq.{sets}
+use lib.ListN.{length, length-append}
 use borrow.Author.Tests.{eq-eqb, ne-eqb}
-use Rattle.paper.specs.Memory.{written}
 use Rattle.paper.proofs.Scan.{rows-length}
-use Rattle.paper.proofs.Front.{written-run, written-length}
 use Rattle.leaves.specs.Leaves.{Leaf, leaf}
 use Rattle.leaves.specs.Laws.{at}
 use Rattle.adaption.specs.Adaption.{joined, gives, adapted}
-use Rattle.adaption.specs.Pass.{turn, gain, stride, newLevel, newPosition, run, made, Ran, Passed}
+use Rattle.adaption.specs.Pass.{turn, gain, stride, newLevel, newPosition, made}
+use Rattle.leaves.specs.Stretch.{stretch, Ran, Passed}
+use Rattle.leaves.proofs.Stretches as stretches
+use Rattle.leaves.proofs.Stretches.{passed-more}
 use Rattle.adaption.proofs.Turns.{from, from-end, Clear, Turn, turn-at}
 
 -- ---- one turn's numbers
@@ -47,7 +47,7 @@ module _ (n : ℕ) (positive : 0 < n) where
       (λ not-one not-two. simp (ne-eqb t 2 not-two) (omega arith))
 
   -- the positions of a run fit 64 bits
-  pub run-fits : (t p : ℕ) → p < 2 ^ 64 → (t ≡ 1 → n * p + n ≤ 2 ^ 63) → newPosition n t p + gain n t ≤ 2 ^ 64
+  pub run-fits : (t p : ℕ) → p < 2 ^ 63 → (t ≡ 1 → n * p + n ≤ 2 ^ 63) → newPosition n t p + gain n t ≤ 18446744073709551615
   run-fits t p small narrow =
       by-number t
       (λ one. simp (eq-eqb t 1 one) (omega (arith, narrow one)))
@@ -119,14 +119,6 @@ module _ (n : ℕ) (positive : 0 < n) where
         omega (arith, a .bounded, mul-le-mul-right n reached, narrow)
 
 -- ---- the columns on the way
-column-run : (g : Leaf → ℕ) (done more : List Leaf) (size : ℕ) (old mid new : List ℕ) → size ≡ length done → length done + length more ≤ length old
-    → mid ≡ written (map g done) old → new ≡ sets mid size (map g more) → new ≡ written (map g (done ++ more)) old
-column-run g done more size old mid new counted room front run =
-    run
-    ∙ ap₂ (λ (l : List ℕ) (k : ℕ). sets l k (map g more)) front (counted ∙ sym (length-map done g))
-    ∙ written-run (map g done) (map g more) old (omega (arith, length-map done g, length-map more g))
-    ∙ ap (λ (xs : List ℕ). written xs old) (sym (map-append g done more))
-
 module _ (n : ℕ) (positive : 0 < n) (vs : List Leaf) (ms : List ℕ) (roots levels positions : List ℕ) where
   pub record Underway (i size : ℕ) (rs ls ps : List ℕ) : Type 0 where
     pub along : Along n positive vs ms i size
@@ -142,20 +134,18 @@ module _ (n : ℕ) (positive : 0 < n) (vs : List Leaf) (ms : List ℕ) (roots le
         subst⁻¹ (λ (us : List Leaf). Passed us roots levels positions rs ls ps) (along-all n positive vs ms i size (u .along) past) (u .filled)
 
     -- the columns stay as long as they were
-    stays : (g : Leaf → ℕ) (old new : List ℕ) → new ≡ written (map g (u .along .done)) old → length (adapted n vs ms) ≤ length old → length new ≡ length old
-    stays g old new front room =
-        ap length front
-        ∙ written-length (map g (u .along .done)) old (omega (arith, room, length-map (u .along .done) g, ap length (u .along .split), length-append (u .along .done) (from n positive vs ms i)))
+    made-few : (l : List ℕ) → length (adapted n vs ms) ≤ length l → length (u .along .done) ≤ length l
+    made-few l room = omega (arith, room, ap length (u .along .split), length-append (u .along .done) (from n positive vs ms i))
 
     module _ (room : length (adapted n vs ms) ≤ length roots) where
       pub roots-stay : length rs ≡ length roots
-      roots-stay = stays (λ (v : Leaf). v .root) roots rs (u .filled .in-roots) room
+      roots-stay = stretches.roots-stay (u .along .done) (u .filled) (made-few roots room)
 
       pub levels-stay : length roots ≡ length levels → length ls ≡ length levels
-      levels-stay long = stays (λ (v : Leaf). v .level) levels ls (u .filled .in-levels) (omega (arith, room, long))
+      levels-stay long = stretches.levels-stay (u .along .done) (u .filled) (made-few levels (omega (arith, room, long)))
 
       pub positions-stay : length roots ≡ length positions → length ps ≡ length positions
-      positions-stay long = stays (λ (v : Leaf). v .position) positions ps (u .filled .in-positions) (omega (arith, room, long))
+      positions-stay long = stretches.positions-stay (u .along .done) (u .filled) (made-few positions (omega (arith, room, long)))
 
     module _ (inside : i < length vs) (room : length (adapted n vs ms) ≤ length roots) (l-long : length roots ≡ length levels) (p-long : length roots ≡ length positions) where
       fits : (l : List ℕ) → length roots ≡ length l → length (u .along .done) + length (made n vs ms i) ≤ length l
@@ -168,11 +158,7 @@ module _ (n : ℕ) (positive : 0 < n) (vs : List Leaf) (ms : List ℕ) (roots le
       underway-more {rs′} {ls′} {ps′} f =
           record {
             along = along-more n positive vs ms i size (u .along) inside;
-            filled = record {
-              in-roots = column-run (λ (v : Leaf). v .root) (u .along .done) (made n vs ms i) size roots rs rs′ (u .along .counted) (fits roots refl) (u .filled .in-roots) (f .in-roots);
-              in-levels = column-run (λ (v : Leaf). v .level) (u .along .done) (made n vs ms i) size levels ls ls′ (u .along .counted) (fits levels l-long) (u .filled .in-levels) (f .in-levels);
-              in-positions = column-run (λ (v : Leaf). v .position) (u .along .done) (made n vs ms i) size positions ps ps′ (u .along .counted) (fits positions p-long) (u .filled .in-positions) (f .in-positions);
-            };
+            filled = passed-more (u .along .done) (u .filled) (made n vs ms i) size (u .along .counted) (fits roots refl) (fits levels l-long) (fits positions p-long) f;
           }
 
       pub room-for : (t g : ℕ) → t ≡ turn n vs ms i → g ≡ gain n t → (size + g ≤ length rs) × ((size + g ≤ length ls) × (size + g ≤ length ps))
@@ -190,8 +176,8 @@ module _ (n : ℕ) (positive : 0 < n) (vs : List Leaf) (ms : List ℕ) (roots le
 
 -- ---- what the code has run is what the turn makes
 pub made-is : (n : ℕ) (vs : List Leaf) (ms : List ℕ) (i t l p k : ℕ) (v : Leaf) → t ≡ turn n vs ms i → v ≡ at vs i
-    → l ≡ newLevel t (v .level) → p ≡ newPosition n t (v .position) → k ≡ gain n t → run (v .root) l p k ≡ made n vs ms i
+    → l ≡ newLevel t (v .level) → p ≡ newPosition n t (v .position) → k ≡ gain n t → stretch (v .root) l p k ≡ made n vs ms i
 made-is n vs ms i t l p k v is-turn is-leaf level position count =
-    ap (λ (x : ℕ). run (v .root) x p k) level
-    ∙ ap₂ (run (v .root) (newLevel t (v .level))) position count
-    ∙ ap₂ (λ (w : Leaf) (x : ℕ). run (w .root) (newLevel x (w .level)) (newPosition n x (w .position)) (gain n x)) is-leaf is-turn
+    ap (λ (x : ℕ). stretch (v .root) x p k) level
+    ∙ ap₂ (stretch (v .root) (newLevel t (v .level))) position count
+    ∙ ap₂ (λ (w : Leaf) (x : ℕ). stretch (w .root) (newLevel x (w .level)) (newPosition n x (w .position)) (gain n x)) is-leaf is-turn

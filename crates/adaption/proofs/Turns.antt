@@ -13,7 +13,8 @@ use borrow.Author.Tests.{eq-eqb, ne-eqb}
 use Rattle.leaves.specs.Leaves.{Leaf, leaf}
 use Rattle.leaves.specs.Laws.{at}
 use Rattle.adaption.specs.Adaption.{mark, joined, childrenOf, parent, merging, gives}
-use Rattle.adaption.specs.Pass.{turn, gain, stride, newLevel, newPosition, run, made}
+use Rattle.adaption.specs.Pass.{turn, gain, stride, newLevel, newPosition, made}
+use Rattle.leaves.specs.Stretch.{stretch}
 use Rattle.adaption.specs.Laws.{Merging}
 use Rattle.adaption.proofs.Family.{merging-is, is-merging, alone, not-so}
 use Rattle.adaption.proofs.Gives.{gives-refined, gives-younger, gives-merged, gives-kept}
@@ -111,7 +112,7 @@ module _ (n : ℕ) (positive : 0 < n) (vs : List Leaf) (ms : List ℕ) where
 
   -- the leaf i and a turn t
   abbrev madeBy : ℕ → ℕ → List Leaf
-  madeBy i t = run (at vs i .root) (newLevel t (at vs i .level)) (newPosition n t (at vs i .position)) (gain n t)
+  madeBy i t = stretch (at vs i .root) (newLevel t (at vs i .level)) (newPosition n t (at vs i .position)) (gain n t)
 
   pub record Turn (i : ℕ) : Type 0 where
     pub makes : from i ≡ made n vs ms i ++ from (i + stride n (turn n vs ms i))

@@ -5,12 +5,10 @@
 --   gain n t         how many leaves a turn makes
 --   stride n t       how many leaves a turn takes
 --   newLevel, newPosition   of the first leaf that a turn makes
---   run r l p k      k leaves of root r and level l, from position p on
 --   made vs ms i     what the turn at leaf i makes
 --   Ready            what the pass needs of a list and its marks: no mark above 2; n leaves of one level, from a position divisible by n on,
 --                    are a family; no level or position that it makes is too large for its type
 --   Faultless        the contract of the loop over the marks: its answer is 0 only where the first k marks have no fault
---   Ran, Passed      the contracts of the loops that write: what stands in three columns after a run, and after the whole pass
 --
 -- Assumes nothing.
 use mathlib.Core.Path.{_≡_}
@@ -19,19 +17,14 @@ use mathlib.Core.List.{List}
 use Prim.Native.Nat.{ℕ, _+_, _-_, _*_, _/_, _%_, _^_, _≤_, _<_}
 use lib.Dec.{eqb}
 use lib.ListN.{length}
-use lib.Seq.{sets}
-use Rattle.paper.specs.Outcome.{rows}
-use Rattle.paper.specs.Memory.{written}
-use Rattle.leaves.specs.Leaves.{Leaf, leaf, rootsOf, levelsOf, positionsOf}
+use Rattle.leaves.specs.Leaves.{Leaf}
+use Rattle.leaves.specs.Stretch.{stretch}
 use Rattle.leaves.specs.Laws.{at}
 use Rattle.adaption.specs.Adaption.{mark, child, parent, merging}
 use Rattle.adaption.specs.Calls.{markFault, depthFault}
 
 abbrev pub newLevel : ℕ → ℕ → ℕ
 newLevel t l = cond (eqb t 1) (l + 1) (cond (eqb t 2) (l - 1) l)
-
-abbrev pub run : ℕ → ℕ → ℕ → ℕ → List Leaf
-run r l p k = rows (λ t. leaf r l (p + t)) 0 k
 
 module _ (n : ℕ) where
   abbrev pub turn : List Leaf → List ℕ → ℕ → ℕ
@@ -48,7 +41,7 @@ module _ (n : ℕ) where
 
   abbrev pub made : List Leaf → List ℕ → ℕ → List Leaf
   made vs ms i =
-      run (at vs i .root) (newLevel (turn vs ms i) (at vs i .level)) (newPosition (turn vs ms i) (at vs i .position)) (gain (turn vs ms i))
+      stretch (at vs i .root) (newLevel (turn vs ms i) (at vs i .level)) (newPosition (turn vs ms i) (at vs i .position)) (gain (turn vs ms i))
 
   pub record Ready (vs : List Leaf) (ms : List ℕ) : Type 0 where
     pub siblings : (j : ℕ) → j + n ≤ length vs → 0 < at vs j .level → at vs j .position % n ≡ 0
@@ -61,13 +54,3 @@ module _ (n : ℕ) where
 
 abbrev pub Faultless : ℕ → List ℕ → List ℕ → ℕ → ℕ → Type 0
 Faultless L ls ms k r = r ≡ 0 → (j : ℕ) → j < k → (markFault ms j ≡ 0) × (depthFault L ls ms j ≡ 0)
-
-pub record Ran (at : ℕ) (vs : List Leaf) (roots levels positions roots′ levels′ positions′ : List ℕ) : Type 0 where
-  pub in-roots : roots′ ≡ sets roots at (rootsOf vs)
-  pub in-levels : levels′ ≡ sets levels at (levelsOf vs)
-  pub in-positions : positions′ ≡ sets positions at (positionsOf vs)
-
-pub record Passed (vs : List Leaf) (roots levels positions roots′ levels′ positions′ : List ℕ) : Type 0 where
-  pub in-roots : roots′ ≡ written (rootsOf vs) roots
-  pub in-levels : levels′ ≡ written (levelsOf vs) levels
-  pub in-positions : positions′ ≡ written (positionsOf vs) positions

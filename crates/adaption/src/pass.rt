@@ -6,7 +6,8 @@ ghost use Prim.Native.Nat.{_^_, _≤_, _<_};
 ghost use lib.ListN.{length};
 ghost use Rattle.leaves.specs.Leaves.{leaves};
 ghost use Rattle.adaption.specs.Adaption.{adapted};
-ghost use Rattle.adaption.specs.Pass.{Ready, Passed};
+ghost use Rattle.leaves.specs.Stretch.{Passed};
+ghost use Rattle.adaption.specs.Pass.{Ready};
 
 // How many leaves the result has.
 pub(crate) fn count(

@@ -57,7 +57,7 @@ module _ (n L K : ℕ) (positive : 0 < n) where
       )
 
 -- ---- the leaves of a run, before leaves whose first run is of another level, are a run
-first-run : (l : ℕ) (rs : List Run) → Differs l rs → joinRun l rs ≡ run l 1 ∷ rs
+pub first-run : (l : ℕ) (rs : List Run) → Differs l rs → joinRun l rs ≡ run l 1 ∷ rs
 first-run l [] other = refl
 first-run l (r ∷ rs) other = simp (ne-eqb l (r .level) other)
 

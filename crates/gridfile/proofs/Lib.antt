@@ -4,5 +4,17 @@ pub mod Coded
 pub mod Runs
 pub mod ReadBack
 pub mod Fitting
+pub mod Units
+pub mod Tests
+pub mod Spots
+pub mod Counting
+pub mod Laying
+pub mod Underway
+pub mod Loading
+pub mod Taking
 pub mod Accepting
 pub mod OneFile
+pub mod Ending
+pub mod Writing
+pub mod Putting
+pub mod Filed

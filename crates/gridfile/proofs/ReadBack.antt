@@ -1,52 +1,44 @@
 -- A list's file is read as the list: its numbers are read one after the other, and the runs give its leaves. Assumes nothing.
 use mathlib.Core.Path.{_≡_, refl, ap, _∙_, sym}
-use mathlib.Core.Bool.{true, not, _||_}
+use mathlib.Core.Bool.{true}
 use mathlib.Core.List.{List, [], _∷_, _++_, append-assoc}
 use Prim.Native.Nat.{ℕ, suc, _+_, _≤_, _<_}
 use native.Mathlib.Omega.{arith}
-use lib.Dec.{ltb, eqb}
 use lib.ListN.{length, length-append}
 use borrow.Author.Tests.{le-ltb, eq-eqb, ne-eqb}
-use Rattle.paper.specs.Outcome.{Outcome, accepted, refuse-when-at, mapped}
+use Rattle.paper.specs.Outcome.{Outcome, accepted, mapped}
 use Rattle.leaves.specs.Leaves.{Leaf, Place, place, Valid}
 use Rattle.leaves.proofs.Entries.{some-leaf}
-use Rattle.leaves.specs.Calls.{limit, outOfRange}
+use Rattle.leaves.specs.Calls.{limit}
 use Rattle.gridfile.specs.Numbers.{highest, bytesOf, Read, read, numberAt}
 use Rattle.gridfile.specs.File.{Run, runsOf, runBytes, fileOf, tag}
-use Rattle.gridfile.specs.Reading.{and-then, Grid, fits, leavesOf, after, runsAt, gridAt}
+use Rattle.gridfile.specs.Reading.{and-then, Head, head, afterRuns, afterRoots, headAt, headed, fits, leavesOf, after, RunRead, runRead, afterCount, afterLevel, runAt, runsAt, gridAt}
 use Rattle.gridfile.proofs.Coded.{codec}
 use Rattle.gridfile.proofs.Runs.{Reads, Differs, reads-of, leaves-count, runs-few, runs-some}
 
 module _ (n L K : ℕ) (bs : List ℕ) where
-  -- ---- one run, as the definition takes it apart
-  abbrev pub countStep : ℕ → ℕ → Place → ℕ → Read → Read → Outcome (List Leaf)
-  countStep R i c N l k =
-      refuse-when-at (eqb (k .value) 0) 21 (l .next)
-      (refuse-when-at (ltb limit (N + k .value)) 15 (l .next)
-      (refuse-when-at (not (fits n L K c (l .value) (k .value))) 12 i
-      (mapped (λ (vs : List Leaf). leavesOf n L c (l .value) (k .value) ++ vs)
-      (runsAt n L bs K R (k .next) (l .value) (after n L c (l .value) (k .value)) (N + k .value)))))
+  -- ---- one run
+  run-is : (i before : ℕ) (c : Place) (N : ℕ) (l k : Read) → numberAt bs i ≡ accepted l → numberAt bs (l .next) ≡ accepted k
+      → l .value ≤ L → (before ≡ l .value → ⊥) → 0 < k .value → N + k .value ≤ limit → fits n L K c (l .value) (k .value) ≡ true
+      → runAt n L bs K i before c N ≡ accepted (runRead (l .value) (k .value) (k .next))
+  run-is i before c N l k level count shallow other some few fit =
+      ap (λ (o : Outcome Read). and-then o (afterLevel n L bs K i before c N)) level
+      ∙ simp (le-ltb L (l .value) shallow, ne-eqb before (l .value) other)
+      (ap (λ (o : Outcome Read). and-then o (afterCount n L K i c N l)) count
+      ∙ simp (ne-eqb (k .value) 0 (λ none. omega arith), le-ltb limit (N + k .value) few, fit))
 
-  abbrev pub levelStep : ℕ → ℕ → ℕ → Place → ℕ → Read → Outcome (List Leaf)
-  levelStep R i before c N l =
-      refuse-when-at (ltb L (l .value)) 1 i
-      (refuse-when-at (eqb before (l .value)) 21 i
-      (and-then (numberAt bs (l .next)) (countStep R i c N l)))
+  -- what follows a run
+  abbrev pub runStep : ℕ → Place → ℕ → RunRead → Outcome (List Leaf)
+  runStep R c N r =
+      mapped (λ (vs : List Leaf). leavesOf n L c (r .level) (r .count) ++ vs)
+      (runsAt n L bs K R (r .next) (r .level) (after n L c (r .level) (r .count)) (N + r .count))
 
-  pub apart : (R i before : ℕ) (c : Place) (N : ℕ) → runsAt n L bs K (suc R) i before c N ≡ and-then (numberAt bs i) (levelStep R i before c N)
+  pub apart : (R i before : ℕ) (c : Place) (N : ℕ) → runsAt n L bs K (suc R) i before c N ≡ and-then (runAt n L bs K i before c N) (runStep R c N)
   unfolding runsAt
   apart R i before c N = refl
 
-  one-run : (R i before : ℕ) (c : Place) (N : ℕ) (l k : Read) → numberAt bs i ≡ accepted l → numberAt bs (l .next) ≡ accepted k
-      → l .value ≤ L → (before ≡ l .value → ⊥) → 0 < k .value → N + k .value ≤ limit → fits n L K c (l .value) (k .value) ≡ true
-      → runsAt n L bs K (suc R) i before c N ≡ mapped (λ (vs : List Leaf). leavesOf n L c (l .value) (k .value) ++ vs)
-      (runsAt n L bs K R (k .next) (l .value) (after n L c (l .value) (k .value)) (N + k .value))
-  one-run R i before c N l k level count shallow other some few fit =
-      apart R i before c N
-      ∙ ap (λ (o : Outcome Read). and-then o (levelStep R i before c N)) level
-      ∙ simp (le-ltb L (l .value) shallow, ne-eqb before (l .value) other)
-      (ap (λ (o : Outcome Read). and-then o (countStep R i c N l)) count
-      ∙ simp (ne-eqb (k .value) 0 (λ none. omega arith), le-ltb limit (N + k .value) few, fit))
+  one-run : (R i before : ℕ) (c : Place) (N : ℕ) (r : RunRead) → runAt n L bs K i before c N ≡ accepted r → runsAt n L bs K (suc R) i before c N ≡ runStep R c N r
+  one-run R i before c N r is = apart R i before c N ∙ ap (λ (o : Outcome RunRead). and-then o (runStep R c N)) is
 
   no-run : (i before : ℕ) (c : Place) (N : ℕ) → c ≡ place K 0 → length bs ≤ i → runsAt n L bs K 0 i before c N ≡ accepted []
   unfolding runsAt
@@ -78,7 +70,8 @@ module _ (n L K : ℕ) (bs : List ℕ) where
       ap (λ (b : List ℕ). numberAt b (length pre)) whole ∙ codec .read-written pre (bytesOf k ++ runBytes rs) l (omega (arith, f .0)) in
       let count : numberAt bs (length pre + length (bytesOf l)) ≡ accepted (read k (length pre1 + length (bytesOf k))) =
       ap (numberAt bs) (sym (length-append pre (bytesOf l))) ∙ ap (λ (b : List ℕ). numberAt b (length pre1)) whole1 ∙ codec .read-written pre1 (runBytes rs) k (omega arith) in
-      one-run (length rs) (length pre) before c N (read l (length pre + length (bytesOf l))) (read k (length pre1 + length (bytesOf k))) level count (f .0) other (f .1) (omega arith) (f .2)
+      one-run (length rs) (length pre) before c N (runRead l k (length pre1 + length (bytesOf k)))
+      (run-is (length pre) before c N (read l (length pre + length (bytesOf l))) (read k (length pre1 + length (bytesOf k))) level count (f .0) other (f .1) (omega arith) (f .2))
       ∙ ap (mapped (λ (us : List Leaf). leavesOf n L c l k ++ us))
       (ap (λ (i : ℕ). runsAt n L bs K (length rs) i l (after n L c l k) (N + k)) (sym (length-append pre1 (bytesOf k)))
       ∙ runs-read positive low rs rest pre2 l (after n L c l k) (N + k) whole2 (f .3) (omega arith) (f .4 .1 .1))
@@ -90,18 +83,10 @@ unfolding Reads
 first-differs n L K positive c [] vs f = tt
 first-differs n L K positive c (r ∷ rs) vs f = λ same. omega (arith, f .0)
 
+opened : (rest : List ℕ) → headAt (tag ++ rest) ≡ and-then (numberAt (tag ++ rest) 4) (afterRoots (tag ++ rest))
+opened rest = simp (le-ltb (length (tag ++ rest)) 4 (omega arith))
+
 module _ (n L : ℕ) (positive : 0 < n) (low : L ≤ highest) where
-  abbrev pub runsStep : List ℕ → Read → Read → Outcome Grid
-  runsStep bs k r =
-      refuse-when-at (eqb (r .value) 0 || ltb limit (r .value)) 21 (k .next)
-      (mapped (λ (vs : List Leaf). record { roots = k .value; leaves = vs }) (runsAt n L bs (k .value) (r .value) (r .next) (suc L) (place 0 0) 0))
-
-  abbrev pub rootsStep : List ℕ → Read → Outcome Grid
-  rootsStep bs k = refuse-when-at (outOfRange (k .value)) 17 4 (and-then (numberAt bs (k .next)) (runsStep bs k))
-
-  opened : (rest : List ℕ) → gridAt n L (tag ++ rest) ≡ and-then (numberAt (tag ++ rest) 4) (rootsStep (tag ++ rest))
-  opened rest = simp (le-ltb (length (tag ++ rest)) 4 (omega arith))
-
   pub read-back : (K : ℕ) (vs : List Leaf) → 0 < K → K ≤ 4096 → length vs ≤ limit → Valid n L K vs → gridAt n L (fileOf K vs) ≡ accepted (record { roots = K; leaves = vs })
   read-back K vs some few short valid =
       let rs = runsOf vs in
@@ -117,11 +102,13 @@ module _ (n L : ℕ) (positive : 0 < n) (low : L ≤ highest) where
       ap (numberAt bs) (sym (length-append tag (bytesOf K))) ∙ ap (λ (b : List ℕ). numberAt b (length pre1)) whole1 ∙ codec .read-written pre1 (runBytes rs) R (omega arith) in
       let f = reads-of n L K positive (place 0 0) vs valid in
       let some-run = runs-some vs (some-leaf n L K vs some valid) in
+      let top : headAt bs ≡ accepted (head K R (length pre1 + length (bytesOf R))) =
       opened (bytesOf K ++ (bytesOf R ++ runBytes rs))
-      ∙ ap (λ (o : Outcome Read). and-then o (rootsStep bs)) roots
+      ∙ ap (λ (o : Outcome Read). and-then o (afterRoots bs)) roots
       ∙ simp (ne-eqb K 0 (λ none. omega arith), le-ltb 4096 K few)
-      (ap (λ (o : Outcome Read). and-then o (runsStep bs (read K (4 + length (bytesOf K))))) runs
-      ∙ simp (ne-eqb R 0 (λ none. omega arith), le-ltb limit R (omega arith))
-      (ap (mapped (λ (us : List Leaf). record { roots = K; leaves = us }))
+      (ap (λ (o : Outcome Read). and-then o (afterRuns (read K (4 + length (bytesOf K))))) runs
+      ∙ simp (ne-eqb R 0 (λ none. omega arith), le-ltb limit R (omega arith))) in
+      ap (λ (o : Outcome Head). and-then o (headed n L bs)) top
+      ∙ ap (mapped (λ (us : List Leaf). record { roots = K; leaves = us }))
       (ap (λ (i : ℕ). runsAt n L bs K R i (suc L) (place 0 0) 0) (sym (length-append pre1 (bytesOf R)))
-      ∙ runs-read n L K bs positive low rs vs pre2 (suc L) (place 0 0) 0 whole2 (first-differs n L K positive (place 0 0) rs vs f) (omega arith) f)))
+      ∙ runs-read n L K bs positive low rs vs pre2 (suc L) (place 0 0) 0 whole2 (first-differs n L K positive (place 0 0) rs vs f) (omega arith) f)

@@ -107,7 +107,7 @@ leaves-count n L c l zero = refl
 leaves-count n L c l (suc k) = ap suc (leaves-count n L (endOf n L (next n L c l)) l k)
 
 -- ---- how many runs
-join-few : (l : ℕ) (rs : List Run) → length (joinRun l rs) ≤ suc (length rs)
+pub join-few : (l : ℕ) (rs : List Run) → length (joinRun l rs) ≤ suc (length rs)
 join-few l [] = omega arith
 join-few l (r ∷ rs) = by (eqb l (r .level))
   where

@@ -6,7 +6,8 @@
 --   writing        the call: how many bytes the file has. room is the length of the lent bytes
 --   FileWritten    the contract of writing: its answer, and the file at the front of the lent bytes, or what they held
 --   leavesIn o     the leaves of the grid that was read; none where it was refused
---   FileRead       the contract of reading: its answer, and the leaves at the front of the lent columns, or what they held
+--   Loaded o       the answer of reading with the outcome o, and the leaves at the front of the lent columns, or what they held
+--   FileRead       the contract of reading
 --
 -- Assumes nothing.
 use mathlib.Core.Path.{_≡_}
@@ -47,7 +48,10 @@ abbrev pub leavesIn : Outcome Grid → List Leaf
 leavesIn (accepted g) = g .leaves
 leavesIn (refused number at) = []
 
-pub record FileRead (bytes : List ℕ) (r : GridAnswer) (roots levels positions roots′ levels′ positions′ : List ℕ) : Type 0 where
-  pub answer : gridOf r ≡ mapped sizeOf (reading 8 21 bytes (equalColumns roots levels positions) (length roots))
-  pub columns : Columns (gridOf r) (leavesIn (reading 8 21 bytes (equalColumns roots levels positions) (length roots)))
-      roots levels positions roots′ levels′ positions′
+pub record Loaded (o : Outcome Grid) (r : GridAnswer) (roots levels positions roots′ levels′ positions′ : List ℕ) : Type 0 where
+  pub answer : gridOf r ≡ mapped sizeOf o
+  pub columns : Columns (gridOf r) (leavesIn o) roots levels positions roots′ levels′ positions′
+
+abbrev pub FileRead : List ℕ → GridAnswer → List ℕ → List ℕ → List ℕ → List ℕ → List ℕ → List ℕ → Type 0
+FileRead bytes r roots levels positions roots′ levels′ positions′ =
+    Loaded (reading 8 21 bytes (equalColumns roots levels positions) (length roots)) r roots levels positions roots′ levels′ positions′

@@ -3,4 +3,6 @@ pub mod Readings
 pub mod File
 pub mod Reading
 pub mod Calls
+pub mod Passes
+pub mod Writing
 pub mod Laws

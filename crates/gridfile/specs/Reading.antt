@@ -6,13 +6,17 @@
 --   17 K outside 1 to 4,096; 18 first four bytes missing or different; 21 R outside 1 to 1,048,576, run of 0, level as in the run before
 --
 --   and-then o f      what follows an accepted outcome
+--   Head, headAt      what stands in front of the runs: K, R, and the offset of the first run; afterRoots, afterRuns: the tests of K and of R
 --   next K c l        the leaf of level l that starts at c
 --   fits K c l k      k leaves of level l can start from c on, each where the one before it ended, in the K roots
 --   leavesOf c l k    those leaves
 --   after c l k       where they end
---   runsAt            the leaves of the R runs from offset i on; before is the level of the run before, above every level for the first run;
---                     c is where the list has come to, N how many leaves it has so far
---   gridAt            K and the leaves of a whole file
+--   RunRead, runAt    the run whose level stands at offset i: its level, its count, and the offset of what follows it; before is the level
+--                     of the run before, above every level for the first run; c is where the list has come to, N how many leaves it has so far
+--   afterLevel, afterCount, afterLast   "After a level", "after a count", "After the last run"
+--   runsAt            the leaves of the R runs from offset i on
+--   headed, gridAt    K and the leaves of a file whose front is known, and of a whole file
+--   fitted            "last 14"
 --   reading           the call: the roots and the number of leaves. equal, room: of the lent columns
 --
 -- Assumes nothing.
@@ -39,6 +43,48 @@ opens bs =
     not (ltb (length bs) 4)
     && (eqb (byteAt bs 0) 80 && (eqb (byteAt bs 1) 71 && (eqb (byteAt bs 2) 82 && eqb (byteAt bs 3) 49)))
 
+pub record Head : Type 0 where
+  pub roots : ℕ
+  pub runs : ℕ
+  pub next : ℕ
+
+abbrev pub head : ℕ → ℕ → ℕ → Head
+head K R j = record { roots = K; runs = R; next = j }
+
+abbrev pub afterRuns : Read → Read → Outcome Head
+afterRuns k r =
+    refuse-when-at (eqb (r .value) 0 || ltb limit (r .value)) 21 (k .next)
+    (accepted (head (k .value) (r .value) (r .next)))
+
+abbrev pub afterRoots : List ℕ → Read → Outcome Head
+afterRoots bs k =
+    refuse-when-at (outOfRange (k .value)) 17 4
+    (and-then (numberAt bs (k .next)) (afterRuns k))
+
+abbrev pub headAt : List ℕ → Outcome Head
+headAt bs =
+    refuse-when (not (opens bs)) 18
+    (and-then (numberAt bs 4) (afterRoots bs))
+
+pub record RunRead : Type 0 where
+  pub level : ℕ
+  pub count : ℕ
+  pub next : ℕ
+
+abbrev pub runRead : ℕ → ℕ → ℕ → RunRead
+runRead l k j = record { level = l; count = k; next = j }
+
+abbrev pub afterLast : List ℕ → ℕ → ℕ → Place → Outcome (List Leaf)
+afterLast bs K i c =
+    refuse-when-at (not (eqb (c .root) K && eqb (c .cell) 0)) 12 i
+    (refuse-when-at (ltb i (length bs)) 22 i
+    (accepted []))
+
+abbrev pub fitted : ℕ → Grid → Outcome Grid
+fitted room g =
+    refuse-when-at (ltb room (length (g .leaves))) 14 (length (g .leaves))
+    (accepted g)
+
 module _ (n L : ℕ) where
   abbrev pub next : Place → ℕ → Leaf
   next c l = leaf (c .root) l (c .cell / span n L l)
@@ -55,35 +101,38 @@ module _ (n L : ℕ) where
   after c l zero = c
   after c l (suc k) = after (endOf n L (next c l)) l k
 
-  unfoldable pub runsAt : List ℕ → ℕ → ℕ → ℕ → ℕ → Place → ℕ → Outcome (List Leaf)
-  runsAt bs K zero i before c N =
-      refuse-when-at (not (eqb (c .root) K && eqb (c .cell) 0)) 12 i
-      (refuse-when-at (ltb i (length bs)) 22 i
-      (accepted []))
-  runsAt bs K (suc R) i before c N =
-      and-then (numberAt bs i) (λ (l : Read).
-      refuse-when-at (ltb L (l .value)) 1 i
-      (refuse-when-at (eqb before (l .value)) 21 i
-      (and-then (numberAt bs (l .next)) (λ (k : Read).
+  abbrev pub afterCount : ℕ → ℕ → Place → ℕ → Read → Read → Outcome RunRead
+  afterCount K i c N l k =
       refuse-when-at (eqb (k .value) 0) 21 (l .next)
       (refuse-when-at (ltb limit (N + k .value)) 15 (l .next)
       (refuse-when-at (not (fits K c (l .value) (k .value))) 12 i
-      (mapped (λ (vs : List Leaf). leavesOf c (l .value) (k .value) ++ vs)
-      (runsAt bs K R (k .next) (l .value) (after c (l .value) (k .value)) (N + k .value)))))))))
+      (accepted (runRead (l .value) (k .value) (k .next)))))
+
+  abbrev pub afterLevel : List ℕ → ℕ → ℕ → ℕ → Place → ℕ → Read → Outcome RunRead
+  afterLevel bs K i before c N l =
+      refuse-when-at (ltb L (l .value)) 1 i
+      (refuse-when-at (eqb before (l .value)) 21 i
+      (and-then (numberAt bs (l .next)) (afterCount K i c N l)))
+
+  abbrev pub runAt : List ℕ → ℕ → ℕ → ℕ → Place → ℕ → Outcome RunRead
+  runAt bs K i before c N = and-then (numberAt bs i) (afterLevel bs K i before c N)
+
+  unfoldable pub runsAt : List ℕ → ℕ → ℕ → ℕ → ℕ → Place → ℕ → Outcome (List Leaf)
+  runsAt bs K zero i before c N = afterLast bs K i c
+  runsAt bs K (suc R) i before c N =
+      and-then (runAt bs K i before c N) (λ (r : RunRead).
+      mapped (λ (vs : List Leaf). leavesOf c (r .level) (r .count) ++ vs)
+      (runsAt bs K R (r .next) (r .level) (after c (r .level) (r .count)) (N + r .count)))
+
+  abbrev pub headed : List ℕ → Head → Outcome Grid
+  headed bs h =
+      mapped (λ (vs : List Leaf). record { roots = h .roots; leaves = vs })
+      (runsAt bs (h .roots) (h .runs) (h .next) (suc L) (place 0 0) 0)
 
   abbrev pub gridAt : List ℕ → Outcome Grid
-  gridAt bs =
-      refuse-when (not (opens bs)) 18
-      (and-then (numberAt bs 4) (λ (k : Read).
-      refuse-when-at (outOfRange (k .value)) 17 4
-      (and-then (numberAt bs (k .next)) (λ (r : Read).
-      refuse-when-at (eqb (r .value) 0 || ltb limit (r .value)) 21 (k .next)
-      (mapped (λ (vs : List Leaf). record { roots = k .value; leaves = vs })
-      (runsAt bs (k .value) (r .value) (r .next) (suc L) (place 0 0) 0))))))
+  gridAt bs = and-then (headAt bs) (headed bs)
 
   abbrev pub reading : List ℕ → Bool → ℕ → Outcome Grid
   reading bs equal room =
       refuse-when (not equal) 11
-      (and-then (gridAt bs) (λ (g : Grid).
-      refuse-when-at (ltb room (length (g .leaves))) 14 (length (g .leaves))
-      (accepted g)))
+      (and-then (gridAt bs) (fitted room))

@@ -1,10 +1,11 @@
 -- The leaves of a list that covers, one by one: each is sound, and each starts where the one before it ends. Assumes nothing.
-use mathlib.Core.Path.{_≡_, ap}
+use mathlib.Core.Path.{_≡_, refl, ap, _∙_}
 use mathlib.Core.List.{List, [], _∷_}
 use Prim.Native.Nat.{ℕ, zero, suc, _^_, _≤_, _<_}
 use native.Mathlib.Omega.{arith}
-use lib.ListN.{length}
-use Rattle.leaves.specs.Leaves.{Leaf, Place, startOf, endOf, Covers, Valid}
+use lib.ListN.{length, length-map}
+use Rattle.paper.specs.Outcome.{rows}
+use Rattle.leaves.specs.Leaves.{Leaf, leafAt, leaves, rootsOf, levelsOf, positionsOf, Place, startOf, endOf, Covers, Valid}
 use Rattle.leaves.specs.Laws.{at}
 
 module _ (n L K : ℕ) where
@@ -36,3 +37,16 @@ pub some-leaf : (n L K : ℕ) (vs : List Leaf) → 0 < K → Valid n L K vs → 
 unfolding Covers
 some-leaf n L K [] some valid = absurd (let none : 0 ≡ K = ap (λ (p : Place). p .root) valid in omega arith)
 some-leaf n L K (v ∷ vs) some valid = omega arith
+
+-- ---- the leaves of a list's own columns are the list
+columns-later : (v : Leaf) (us : List Leaf) (i k : ℕ) → rows (leafAt (rootsOf (v ∷ us)) (levelsOf (v ∷ us)) (positionsOf (v ∷ us))) (suc i) k
+    ≡ rows (leafAt (rootsOf us) (levelsOf us) (positionsOf us)) i k
+columns-later v us i zero = refl
+columns-later v us i (suc k) = ap (λ (xs : List Leaf). leafAt (rootsOf us) (levelsOf us) (positionsOf us) i ∷ xs) (columns-later v us (suc i) k)
+
+columns-rows : (us : List Leaf) → rows (leafAt (rootsOf us) (levelsOf us) (positionsOf us)) 0 (length us) ≡ us
+columns-rows [] = refl
+columns-rows (v ∷ us) = ap (λ (xs : List Leaf). v ∷ xs) (columns-later v us 0 (length us) ∙ columns-rows us)
+
+pub leaves-of-columns : (vs : List Leaf) → leaves (rootsOf vs) (levelsOf vs) (positionsOf vs) ≡ vs
+leaves-of-columns vs = ap (rows (leafAt (rootsOf vs) (levelsOf vs) (positionsOf vs)) 0) (length-map vs (λ (v : Leaf). v .root)) ∙ columns-rows vs

@@ -1,9 +1,9 @@
 -- The columns of a uniform start: the leaves of a root all have its number, so a root's run of entries makes the front longer by a root.
 -- Assumes nothing.
 use mathlib.Core.Path.{_≡_, refl, ap, ap₂, _∙_, sym}
-use mathlib.Core.List.{List, _∷_, _++_}
+use mathlib.Core.List.{List, [], _∷_, _++_}
 use Prim.Native.Nat.{ℕ, zero, suc, _+_, _*_, _/_, _%_, _^_, _≤_, _<_}
-use native.Mathlib.Nat.{add-zero, add-suc, suc-add, zero-add, one-mul, mod-eq-of-lt, div-eq-of-lt-le, mul-le-mul-right}
+use native.Mathlib.Nat.{one-mul, mod-eq-of-lt, div-eq-of-lt-le, mul-le-mul-right}
 use native.Mathlib.Omega.{arith}
 use lib.ListN.{length}
 use lib.Pow.{pow-lt}
@@ -11,21 +11,18 @@ use lib.Seq.{sets}
 use Rattle.paper.specs.Outcome.{rows}
 use Rattle.paper.specs.Memory.{written}
 use Rattle.paper.proofs.Scan.{rows-length}
-use Rattle.paper.proofs.Front.{written-run}
+use Rattle.paper.proofs.Front.{rows-two, written-run}
 use Rattle.leaves.proofs.Span.{more-mul}
-
--- ---- rows in two parts
-rows-two : (f : ℕ → ℕ) (i a m : ℕ) → rows f i (a + m) ≡ rows f i a ++ rows f (i + a) m
-rows-two f i zero m = ap₂ (λ (j k : ℕ). rows f j k) (sym (add-zero i)) (zero-add m)
-rows-two f i (suc a) m =
-    ap (rows f i) (suc-add a m)
-    ∙ ap (λ (xs : List ℕ). f i ∷ xs) (rows-two f (suc i) a m ∙ ap (λ (j : ℕ). rows f (suc i) a ++ rows f j m) (suc-add i a ∙ sym (add-suc i a)))
 
 rows-equal : (f : ℕ → ℕ) (r i j m : ℕ) → ((k : ℕ) → i ≤ k → k < i + m → f k ≡ r) → rows f i m ≡ rows (λ k. r) j m
 rows-equal f r i j zero same = refl
 rows-equal f r i j (suc m) same =
     ap₂ (λ (x : ℕ) (xs : List ℕ). x ∷ xs) (same i (omega arith) (omega arith))
     (rows-equal f r (suc i) (suc j) m (λ k low high. same k (omega arith) (omega arith)))
+
+-- entries stored from the first on are the front
+pub from-front : (f : ℕ → ℕ) (l : List ℕ) (k : ℕ) → k ≤ length l → sets l 0 (rows f 0 k) ≡ written (rows f 0 k) l
+from-front f l k room = written-run [] (rows f 0 k) l (omega (arith, rows-length f 0 k))
 
 -- ---- what the code shifts
 pub each-is : (b : ℕ) → b < 64 → 1 * 2 ^ b % 2 ^ 64 ≡ 2 ^ b

@@ -8,6 +8,7 @@ pub mod Promised
 pub mod Shift
 pub mod Turns
 pub mod Filling
+pub mod Stretches
 pub mod Entries
 pub mod Ancestors
 pub mod Powers

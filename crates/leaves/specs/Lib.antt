@@ -4,3 +4,4 @@ pub mod Laws
 pub mod Cells
 pub mod Readings
 pub mod Start
+pub mod Stretch

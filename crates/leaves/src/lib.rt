@@ -14,10 +14,13 @@ ghost use Rattle.leaves.specs.Leaves.{leafAt, leaves, place};
 ghost use Rattle.leaves.specs.Calls.{outOfRange, leafFault, walked, listed};
 ghost use Rattle.leaves.specs.Readings.{placeOf};
 ghost use Rattle.leaves.specs.Start.{Started};
+ghost use Rattle.leaves.specs.Stretch as st;
+ghost use Rattle.leaves.specs.Stretch.{laid, Ran};
 
 mod power;
 mod start;
 mod step;
+mod stretch;
 
 // Where a list has come to: a root, and a smallest cell of it.
 pub struct Cursor {
@@ -97,6 +100,32 @@ pub fn uniform(
     }
     start::fill(k, 3 * level, level, roots, levels, positions);
     NumberAnswer::Is(count)
+}
+
+// So many leaves of one root and level, from a position on, written from entry `at` of each column on: all of them, or none where they don't fit.
+pub fn lay(
+    at: usize,
+    count: usize,
+    root: u16,
+    level: u8,
+    position: u64,
+    roots: &mut [u16],
+    levels: &mut [u8],
+    positions: &mut [u64],
+)
+    ensures { λ _. ⌜ Ran at (st.stretch root level position (laid at count position (length (now (roots .entry))) (length (now (levels .entry))) (length (now (positions .entry))))) (now (roots .entry)) (now (levels .entry)) (now (positions .entry)) (now (roots .exit)) (now (levels .exit)) (now (positions .exit)) ⌝ }
+{
+    if !stretch::fits(
+        at,
+        count,
+        position,
+        roots.len(),
+        levels.len(),
+        positions.len(),
+    ) {
+        return;
+    }
+    stretch::write(at, count, root, level, position, roots, levels, positions);
 }
 
 // The leaves in turn, each where the one before it ended, to the first that doesn't start there or to the end of the last root.

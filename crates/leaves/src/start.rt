@@ -1,8 +1,8 @@
 // The leaves of a uniform start, written from the front, column by column.
+use crate::stretch;
 ghost use mathlib.Core.Path.{_≡_};
 ghost use Prim.Native.Nat.{_+_, _*_, _/_, _%_, _^_, _≤_, _<_};
 ghost use lib.ListN.{length};
-ghost use lib.Seq.{sets};
 ghost use Rattle.paper.specs.Outcome.{rows};
 ghost use Rattle.paper.specs.Memory.{written};
 ghost use Rattle.leaves.specs.Start.{Filled};
@@ -21,7 +21,7 @@ pub(crate) fn fill(
 {
     let count = (k as usize) << bits;
     fill_roots(bits, k, roots);
-    fill_levels(level, count, levels);
+    stretch::in_levels(0, count, level, levels);
     fill_positions(bits, count, positions);
 }
 
@@ -32,32 +32,8 @@ fn fill_roots(bits: u8, k: u16, roots: &mut [u16])
 {
     let mut r = 0;
     while r < k {
-        fill_root(r, (r as usize) << bits, 1usize << bits, roots);
+        stretch::in_roots((r as usize) << bits, 1usize << bits, r, roots);
         r += 1;
-    }
-}
-
-// One number for so many entries.
-fn fill_root(r: u16, start: usize, many: usize, roots: &mut [u16])
-    requires { ⌜ (start + many ≤ 1048576) × (start + many ≤ length (now roots)) ⌝ }
-    ensures { λ _. ⌜ now (roots .exit) ≡ sets (now (roots .entry)) start (rows (λ i. r) 0 many) ⌝ }
-{
-    let mut leaf = 0;
-    while leaf < many {
-        roots[start + leaf] = r;
-        leaf += 1;
-    }
-}
-
-// The level for each leaf.
-fn fill_levels(level: u8, count: usize, levels: &mut [u8])
-    requires { ⌜ (count ≤ 1048576) × (count ≤ length (now levels)) ⌝ }
-    ensures { λ _. ⌜ now (levels .exit) ≡ written (rows (λ i. level) 0 count) (now (levels .entry)) ⌝ }
-{
-    let mut i = 0;
-    while i < count {
-        levels[i] = level;
-        i += 1;
     }
 }
 

@@ -11,6 +11,13 @@ use Rattle.paper.specs.Outcome.{rows}
 use Rattle.paper.specs.Memory.{written}
 use Rattle.paper.proofs.Scan.{rows-length}
 
+-- rows in two parts
+pub rows-two : {A : Type 0} (f : ℕ → A) (i a m : ℕ) → rows f i (a + m) ≡ rows f i a ++ rows f (i + a) m
+rows-two f i zero m = ap₂ (λ (j k : ℕ). rows f j k) (sym (add-zero i)) (zero-add m)
+rows-two f i (suc a) m =
+    ap (rows f i) (suc-add a m)
+    ∙ ap (λ (xs : List _). f i ∷ xs) (rows-two f (suc i) a m ∙ ap (λ (j : ℕ). rows f (suc i) a ++ rows f j m) (suc-add i a ∙ sym (add-suc i a)))
+
 -- one entry more at the end
 rows-snoc : {A : Type 0} (f : ℕ → A) (i k : ℕ) → rows f i (suc k) ≡ rows f i k ++ (f (i + k) ∷ [])
 rows-snoc f i zero = ap (λ (j : ℕ). f j ∷ []) (sym (add-zero i))
@@ -47,6 +54,12 @@ sets-snoc l i [] a = ap (λ (k : ℕ). set l k a) (sym (add-zero i))
 sets-snoc l i (x ∷ xs) a =
     sets-snoc (set l i x) (suc i) xs a
     ∙ ap (λ (k : ℕ). set (sets (set l i x) (suc i) xs) k a) (suc-add i (length xs) ∙ sym (add-suc i (length xs)))
+
+-- a run in two parts
+pub sets-append : (l : List ℕ) (i : ℕ) (xs ys : List ℕ) → sets (sets l i xs) (i + length xs) ys ≡ sets l i (xs ++ ys)
+sets-append l i [] ys = ap (λ (k : ℕ). sets l k ys) (add-zero i)
+sets-append l i (x ∷ xs) ys =
+    ap (λ (k : ℕ). sets (sets (set l i x) (suc i) xs) k ys) (add-suc i (length xs) ∙ sym (suc-add i (length xs))) ∙ sets-append (set l i x) (suc i) xs ys
 
 -- one entry more
 pub run-more : (f : ℕ → ℕ) (l : List ℕ) (i k : ℕ) → set (sets l i (rows f 0 k)) (i + k) (f k) ≡ sets l i (rows f 0 (k + 1))

@@ -48,10 +48,19 @@ use Rattle.paper.specs.declared.NumberAnswer.the-variants as number-answer
 use Rattle.paper.specs.declared.TruthAnswer.the-variants as truth-answer
 use Rattle.paper.specs.declared.OrderAnswer.the-variants as order-answer
 use Rattle.paper.specs.declared.PassAnswer.the-variants as pass-answer
+use Rattle.gridfile.specs.Readings.{Size, gridOf}
+use Rattle.gridfile.specs.declared.GridAnswer.{GridAnswer}
+use Rattle.gridfile.specs.declared.GridAnswer.the-variants as grid-answer
+use Rattle.gridfile.proofs.Coded.{codec}
+use Rattle.gridfile.proofs.OneFile.{one-file, round-trip}
+use Rattle.corners.specs.CornerPoints.{pointOf}
+use Rattle.corners.specs.declared.PointAnswer.{PointAnswer}
+use Rattle.corners.specs.declared.PointAnswer.the-variants as point-answer
+use Rattle.corners.proofs.Promised.{promised}
 use Rattle.line.specs.Elements as lines
 use Rattle.triangle.specs.Elements as triangles
 use Rattle.prism.specs.Elements as prisms
-use Rattle.promises.specs.Demand2.{Elements, Determined, OfElements, OfLists}
+use Rattle.promises.specs.Demand2.{Elements, Determined, OfElements, OfLists, OfFiles, OfPoints}
 
 elements : {E P : Type 0} (S : Shape E) (index : E → ℕ) (points : E → ℕ → List P) (faceAcross : ℕ → ℕ)
     → Lawful S → Ranked S index → Faces S points faceAcross → Elements S index points faceAcross
@@ -120,6 +129,23 @@ pass-answers = determined-by passOf (answer passing pass-answer.Refused) undo
     undo pass-answer.Passed = refl
     undo (pass-answer.Refused n p) = refl
 
+abbrev loaded : Size → GridAnswer
+loaded s = grid-answer.Is (s .roots) (s .leaves)
+
+grid-answers : Determined gridOf
+grid-answers = determined-by gridOf (answer loaded grid-answer.Refused) undo
+  where
+    undo : (r : GridAnswer) → answer loaded grid-answer.Refused (gridOf r) ≡ r
+    undo (grid-answer.Is roots leaves) = refl
+    undo (grid-answer.Refused n p) = refl
+
+point-answers : Determined pointOf
+point-answers = determined-by pointOf (answer point-answer.Is point-answer.Refused) undo
+  where
+    undo : (r : PointAnswer) → answer point-answer.Is point-answer.Refused (pointOf r) ≡ r
+    undo (point-answer.Is p) = refl
+    undo (point-answer.Refused n p) = refl
+
 abbrev ordered : Order → OrderAnswer
 ordered less = order-answer.Less
 ordered same = order-answer.Same
@@ -142,7 +168,7 @@ of-elements =
       of-prisms = elements prism (prismIndex 21) (prism-points.facePoints 21) prism-points.faceAcross (prism-laws.lawful 21) (prism-ranked 21) (prism-faces 21);
       children-are-bey's = bey 21;
       faces-by-definition-27 = definition-27 21;
-      determined = record { line-elements = line-elements; triangle-elements = triangle-elements; prism-elements = prism-elements; numbers = number-answers; truths = truth-answers; orders = order-answers; passes = pass-answers };
+      determined = record { line-elements = line-elements; triangle-elements = triangle-elements; prism-elements = prism-elements; numbers = number-answers; truths = truth-answers; orders = order-answers; passes = pass-answers; grids = grid-answers; points = point-answers };
     }
 
 pub of-lists : OfLists
@@ -155,3 +181,9 @@ of-lists =
       shared = shares-laws.promised;
       balanced = exact;
     }
+
+pub of-files : OfFiles
+of-files = record { numbers = codec; one-file = one-file 8 21 (omega arith) (omega arith); round-trip = round-trip 8 21 (omega arith) (omega arith) }
+
+pub of-points : OfPoints
+of-points = record { promised = promised }

@@ -6,8 +6,10 @@ use Rattle.prism.specs.Elements.{prismTo, neighbour}
 use Rattle.adaption.specs.Adaption.{every, joined}
 use Rattle.shares.specs.Shares.{total, largest}
 use Rattle.leaves.specs.Calls.{walked}
+use Rattle.gridfile.specs.File.{runsOf, runBytes}
+use Rattle.gridfile.specs.Reading.{fits, leavesOf, after, runsAt}
 use Rattle.promises.specs.Starred.{AllHold, starred}
 
 pub starred-hold : AllHold starred
-unfolding starred at positionAt prismTo neighbour parentKind numberOf every joined total largest walked
-starred-hold = (refl, (refl, (refl, (refl, (refl, (refl, (refl, (refl, (refl, (refl, (refl, (refl, (refl, (refl, (refl, (refl, (refl, (refl, (refl, (refl, (refl, (refl, (refl, tt)))))))))))))))))))))))
+unfolding starred at positionAt prismTo neighbour parentKind numberOf every joined total largest walked runsOf runBytes fits leavesOf after runsAt
+starred-hold = (refl, (refl, (refl, (refl, (refl, (refl, (refl, (refl, (refl, (refl, (refl, (refl, (refl, (refl, (refl, (refl, (refl, (refl, (refl, (refl, (refl, (refl, (refl, (refl, (refl, (refl, (refl, (refl, tt))))))))))))))))))))))))))))

@@ -6,8 +6,9 @@
 --   OfElements    demand 2, of the elements of all three shapes
 --   Answers       of every enum that a call answers
 --   OfLists       demand 2, of leaf lists: the list check is exact, each smallest cell lies in one leaf, a leaf's relatives are the
---                 prism's, adaption is the paper's one pass, boundaries are the paper's, balanced is the paper's; files and points have
---                 their own
+--                 prism's, adaption is the paper's one pass, boundaries are the paper's, balanced is the paper's
+--   OfFiles       demand 2, of grid files: "a list has one file and a file one list", and writing and reading undo each other
+--   OfPoints      demand 2, of corner points: the exact value and no other, the bound, the root's own corners, one point for one local corner
 --
 -- Assumes nothing.
 use mathlib.Core.Path.{_≡_}
@@ -21,9 +22,13 @@ use Rattle.index.specs.Index.{lineIndex, triangleIndex, prismIndex}
 use Rattle.index.specs.Rank.{Ranked}
 use Rattle.leaves.specs.Cells.{Tied}
 use Rattle.balance.specs.Balance.{Exact}
+use Rattle.gridfile.specs.Readings.{gridOf}
+use Rattle.corners.specs.CornerPoints.{pointOf}
+use Rattle.gridfile.specs.Laws.{Codec, OneFile, RoundTrip}
 use Rattle.leaves.specs.Laws as leaves
 use Rattle.adaption.specs.Laws as adaption
 use Rattle.shares.specs.Laws as shares
+use Rattle.corners.specs.Laws as corners
 use Rattle.line.specs.Elements as lines
 use Rattle.triangle.specs.Elements as triangles
 use Rattle.prism.specs.Elements as prisms
@@ -51,6 +56,8 @@ pub record Answers : Type 0 where
   pub truths : Determined truthOf
   pub orders : Determined orderOf
   pub passes : Determined passOf
+  pub grids : Determined gridOf
+  pub points : Determined pointOf
 
 pub record OfElements : Type 0 where
   pub of-lines : Elements lines.line lineIndex (line-points.facePoints 21) line-points.faceAcross
@@ -67,3 +74,11 @@ pub record OfLists : Type 1 where
   pub adapted : adaption.Promised 8 21
   pub shared : shares.Promised
   pub balanced : Exact
+
+pub record OfFiles : Type 0 where
+  pub numbers : Codec
+  pub one-file : OneFile 8 21
+  pub round-trip : RoundTrip 8 21
+
+pub record OfPoints : Type 0 where
+  pub promised : corners.Promised

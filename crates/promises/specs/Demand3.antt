@@ -5,15 +5,16 @@
 --
 --   Owner        a smallest cell lies in exactly one listed prism, and that prism in exactly one share
 --   Divided      the grid vs of K roots, with the weights ws, among P machines
---   OfGrids      demand 3: of any valid grid, of any grid that accepted adaptions reach from a uniform start, and of what any accepted call of
---                shares writes. A loaded grid joins with the grid file
+--   OfGrids      demand 3: of any valid grid, of any grid that an accepted call loads from a file, of any that accepted adaptions reach from
+--                a uniform start, and of what any accepted call of shares writes
 --
 -- Assumes nothing.
 use mathlib.Core.Path.{_≡_}
+use mathlib.Core.Bool.{Bool}
 use mathlib.Core.List.{List}
 use Prim.Native.Nat.{ℕ, _+_, _*_, _≤_, _<_}
 use lib.ListN.{length}
-use Rattle.paper.specs.Outcome.{passed}
+use Rattle.paper.specs.Outcome.{accepted, passed}
 use Rattle.tree.specs.Laws.{Sound}
 use Rattle.prism.specs.declared.Prism.{Prism}
 use Rattle.prism.specs.Elements.{prism}
@@ -23,6 +24,8 @@ use Rattle.adaption.specs.Laws.{Reached}
 use Rattle.shares.specs.Shares.{total, boundary, weight, heaviest}
 use Rattle.shares.specs.Calls.{shares}
 use Rattle.shares.specs.Laws.{OneShare, Weighty}
+use Rattle.gridfile.specs.Reading.{Grid, reading}
+use Rattle.gridfile.specs.Laws.{Bytes}
 
 pub record Owner (P : ℕ) (vs : List Leaf) (ws : List ℕ) (r : ℕ) (cell : Prism) : Type 0 where
   pub listed : OneLeaf prism vs r cell
@@ -39,6 +42,8 @@ pub record Divided (K P : ℕ) (vs : List Leaf) (ws : List ℕ) : Type 0 where
 pub record OfGrids : Type 0 where
   pub of-valid : (K P : ℕ) (vs : List Leaf) (ws : List ℕ) → 0 < K → Valid 8 21 K vs → length ws ≡ length vs → Weighty ws → 0 < P
       → Divided K P vs ws
+  pub of-loaded : (bytes : List ℕ) (equal : Bool) (room : ℕ) (g : Grid) (P : ℕ) (ws : List ℕ) → Bytes bytes → reading 8 21 bytes equal room ≡ accepted g
+      → length ws ≡ length (g .leaves) → Weighty ws → 0 < P → Divided (g .roots) P (g .leaves) ws
   pub of-reached : (K s P : ℕ) (vs : List Leaf) (ws : List ℕ) → Reached 8 21 K s vs → length ws ≡ length vs → Weighty ws → 0 < P
       → Divided K P vs ws
   pub of-accepted : (K P : ℕ) (roots levels positions weights : List ℕ) (room : ℕ)

@@ -18,6 +18,8 @@ use Rattle.leaves.specs.Leaves.{Leaf, leaf, rootsOf, levelsOf, positionsOf, uni
 use Rattle.adaption.specs.Adaption.{adapted}
 use Rattle.adaption.specs.Calls.{adaption}
 use Rattle.shares.specs.Calls.{shares}
+use Rattle.gridfile.specs.File.{fileOf}
+use Rattle.gridfile.specs.Reading.{Grid, reading}
 use Rattle.leaves.specs.Calls as lists
 use Rattle.shares.specs.Shares as parts
 use Rattle.tree.specs.Calls
@@ -28,6 +30,8 @@ pub data Case : Type 0 where
   list : List Leaf → List Leaf → Case
   shared : Outcome (Unit {0}) → Case
   boundaries : List ℕ → List ℕ → Case
+  file : List ℕ → List ℕ → Case
+  grid : Outcome Grid → Outcome Grid → Case
 
 abbrev pub Agrees : Case → Type 0
 Agrees (element given said) = given ≡ said
@@ -35,6 +39,8 @@ Agrees (number given said) = given ≡ said
 Agrees (list given said) = given ≡ said
 Agrees (shared given) = given ≡ passed
 Agrees (boundaries given said) = given ≡ said
+Agrees (file given said) = given ≡ said
+Agrees (grid given said) = given ≡ said
 
 abbrev pub AllHold : List Case → Type 0
 AllHold [] = Unit {0}
@@ -67,6 +73,13 @@ refine2 = 0 ∷ 0 ∷ 1 ∷ 0 ∷ 0 ∷ 0 ∷ 0 ∷ 0 ∷ []
 abbrev merge15 : List ℕ
 merge15 = replicate 15 2
 
+-- the two files, in hexadecimal 50 47 52 31 01 ..
+abbrev first : List ℕ
+first = 80 ∷ 71 ∷ 82 ∷ 49 ∷ 1 ∷ 1 ∷ 1 ∷ 8 ∷ []
+
+abbrev second : List ℕ
+second = 80 ∷ 71 ∷ 82 ∷ 49 ∷ 1 ∷ 3 ∷ 1 ∷ 2 ∷ 2 ∷ 8 ∷ 1 ∷ 5 ∷ []
+
 -- the call of adaption on the columns of a list, with so much room
 abbrev adapting : List Leaf → List ℕ → ℕ → Outcome ℕ
 adapting vs ms room = adaption 8 21 1 (rootsOf vs) (levelsOf vs) (positionsOf vs) ms true room
@@ -94,14 +107,19 @@ starred =
     ∷ element (Calls.at prism 1 7) (accepted (is 1 H H H 0))
     ∷ element (Calls.successor prism (is 1 H H H 0)) (refused 9 0)
     ∷ element (Calls.parent prism (is 0 0 0 0 0)) (refused 6 0)
-    -- Uniform K=1, level 1 (eight leaves of level 1). Refining leaf 2 (two of level 1, eight of level 2, five of level 1). All marked 2
-    -- next: the first again. The files themselves join with the grid file.
+    -- Uniform K=1, level 1: file 50 47 52 31 01 01 01 08. Refining leaf 2: 50 47 52 31 01 03 01 02 02 08 01 05. All marked 2 next: the first
+    -- file again.
     ∷ number (lists.uniform 8 21 1 1 true 8) (accepted 8)
     ∷ list (uniform 8 21 1 1) level1
     ∷ number (adapting level1 refine2 15) (accepted 15)
     ∷ list (adapted 8 level1 refine2) refined2
     ∷ number (adapting refined2 merge15 8) (accepted 8)
     ∷ list (adapted 8 refined2 merge15) level1
+    ∷ file (fileOf 1 (uniform 8 21 1 1)) first
+    ∷ file (fileOf 1 (adapted 8 level1 refine2)) second
+    ∷ file (fileOf 1 (adapted 8 refined2 merge15)) first
+    ∷ grid (reading 8 21 first true 8) (accepted (record { roots = 1; leaves = level1 }))
+    ∷ grid (reading 8 21 second true 15) (accepted (record { roots = 1; leaves = refined2 }))
     -- Weights 1, 1, 1, 5 on four roots, P=2: boundaries 0, 3, 4.
     ∷ shared (shares 8 21 4 2 (0 ∷ 1 ∷ 2 ∷ 3 ∷ []) (replicate 4 0) (replicate 4 0) (1 ∷ 1 ∷ 1 ∷ 5 ∷ []) 3)
     ∷ boundaries (parts.boundaries 2 (1 ∷ 1 ∷ 1 ∷ 5 ∷ [])) (0 ∷ 3 ∷ 4 ∷ [])

@@ -22,23 +22,23 @@ abbrev μ-loop : tie.MeasureT-loop
 loop-holds : tie.Need-loop-holds Inv-loop μ-loop
 loop-holds c = (omega arith, ap (λ (m : ℕ). written (rows (λ i. i / 2 ^ (c .before .args .bits)) 0 m) (c .before .args .roots .now)) (sym (zero-mul (2 ^ (c .before .args .bits)))))
 
-cast-fill-root : tie.Need-cast-fill-root Inv-loop μ-loop
-cast-fill-root c = omega arith
+cast-in-roots : tie.Need-cast-in-roots Inv-loop μ-loop
+cast-in-roots c = omega arith
 
-shl-fill-root : tie.Need-shl-fill-root Inv-loop μ-loop
-shl-fill-root c = (c .before .before .before .pre .0)
+shl-in-roots : tie.Need-shl-in-roots Inv-loop μ-loop
+shl-in-roots c = (c .before .before .before .pre .0)
 
-shl-fill-root-2 : tie.Need-shl-fill-root-2 Inv-loop μ-loop
-shl-fill-root-2 c = (c .before .before .before .pre .0)
+shl-in-roots-2 : tie.Need-shl-in-roots-2 Inv-loop μ-loop
+shl-in-roots-2 c = (c .before .before .before .pre .0)
 
-fill-root-requires : tie.Need-fill-root-requires Inv-loop μ-loop
-fill-root-requires c κs =
+in-roots-requires : tie.Need-in-roots-requires Inv-loop μ-loop
+in-roots-requires c κs =
     let inside : (c .before .before .loop .r) + 1 ≤ (c .before .before .before .before .args .k) = omega arith in
     let least = start-le (c .before .before .before .before .args .bits) (c .before .before .before .before .args .k) (c .before .before .loop .r) (c .before .before .before .before .pre .1 .0) (omega arith) in
     let from = start-is (c .before .before .before .before .args .bits) (c .before .before .before .before .args .k) (c .before .before .loop .r) (c .before .before .before .before .pre .1 .0) (omega arith) in
     let each = each-is (c .before .before .before .before .args .bits) (c .before .before .before .before .pre .0) in
     let long = ap length (c .before .before .loop .inv .1) ∙ front-length (λ i. i / 2 ^ (c .before .before .before .before .args .bits)) (c .before .before .before .before .args .roots .now) ((c .before .before .loop .r) * 2 ^ (c .before .before .before .before .args .bits)) (omega (arith, (c .before .before .before .before .pre .1 .1))) in
-    (omega (arith, (c .before .before .before .before .pre .1 .0)), omega (arith, (c .before .before .before .before .pre .1 .1)))
+    omega (arith, (c .before .before .before .before .pre .1 .1))
 
 add-r : tie.Need-add-r Inv-loop μ-loop
 add-r c = omega (arith, (c .before .before .before .before .before .before .before .fits .k))
@@ -50,7 +50,7 @@ loop-again : tie.Need-loop-again Inv-loop μ-loop
 loop-again c =
     let inside : (c .before .before .before .before .before .loop .r) + 1 ≤ (c .before .before .before .before .before .before .before .args .k) = omega arith in (
       inside,
-      (c .before .before .fill-root .ensures)
+      (c .before .before .in-roots .ensures)
           ∙ ap₂ (λ (i m : ℕ). sets (c .before .before .before .before .before .loop .roots) i (rows (λ j. (c .before .before .before .before .before .loop .r)) 0 m)) (start-is (c .before .before .before .before .before .before .before .args .bits) (c .before .before .before .before .before .before .before .args .k) (c .before .before .before .before .before .loop .r) (c .before .before .before .before .before .before .before .pre .1 .0) (omega arith)) (each-is (c .before .before .before .before .before .before .before .args .bits) (c .before .before .before .before .before .before .before .pre .0))
           ∙ ap (λ (l : List ℕ). sets l ((c .before .before .before .before .before .loop .r) * 2 ^ (c .before .before .before .before .before .before .before .args .bits)) (rows (λ j. (c .before .before .before .before .before .loop .r)) 0 (2 ^ (c .before .before .before .before .before .before .before .args .bits)))) (c .before .before .before .before .before .loop .inv .1)
           ∙ root-more (c .before .before .before .before .before .before .before .args .bits) (c .before .before .before .before .before .before .before .args .k) (c .before .before .before .before .before .loop .r) (c .before .before .before .before .before .before .before .pre .1 .0) (omega arith) (c .before .before .before .before .before .before .before .args .roots .now) (c .before .before .before .before .before .before .before .pre .1 .1),
@@ -73,10 +73,10 @@ fill-roots-spec =
     Inv-loop
     μ-loop
     loop-holds
-    cast-fill-root
-    shl-fill-root
-    shl-fill-root-2
-    fill-root-requires
+    cast-in-roots
+    shl-in-roots
+    shl-in-roots-2
+    in-roots-requires
     add-r
     loop-less
     loop-again

@@ -1,0 +1,49 @@
+-- The two passes over a file as the code makes them, and what its answers stand for. Definitions only.
+--
+--   upto K c         the place c is not past the last of K roots
+--   headOf, runOf    the outcomes that an Opening and a RunAnswer stand for
+--   spotOf           the place that a Spot stands for
+--   listOf o         the leaves of an accepted outcome
+--   PairAt, CountAt  a pair that was read at offset i: where a level and a count stand there, it is these
+--
+-- Assumes nothing.
+use mathlib.Core.Path.{_≡_}
+use mathlib.Core.Bool.{Bool, _&&_, _||_}
+use mathlib.Core.List.{List, []}
+use Prim.Native.Nat.{ℕ, _<_}
+use lib.Dec.{ltb, eqb}
+use Rattle.paper.specs.Outcome.{Outcome, accepted, refused}
+use Rattle.leaves.specs.Leaves.{Leaf, Place, place}
+use Rattle.gridfile.specs.Numbers.{Read, numberAt}
+use Rattle.gridfile.specs.Reading.{Head, head, RunRead, runRead}
+use Rattle.gridfile.specs.declared.Opening.{Opening}
+use Rattle.gridfile.specs.declared.RunAnswer.{RunAnswer}
+use Rattle.gridfile.specs.declared.Spot.{Spot}
+use Rattle.gridfile.specs.declared.Opening.the-variants as opening
+use Rattle.gridfile.specs.declared.RunAnswer.the-variants as run
+
+abbrev pub upto : ℕ → Place → Bool
+upto K c = ltb (c .root) K || (eqb (c .root) K && eqb (c .cell) 0)
+
+abbrev pub headOf : Opening → Outcome Head
+headOf (opening.Is roots runs next) = accepted (head roots runs next)
+headOf (opening.Refused number at) = refused number at
+
+abbrev pub runOf : RunAnswer → Outcome RunRead
+runOf (run.Is level count next) = accepted (runRead level count next)
+runOf (run.Refused number at) = refused number at
+
+abbrev pub spotOf : Spot → Place
+spotOf s = place (s .root) (s .cell)
+
+abbrev pub listOf : Outcome (List Leaf) → List Leaf
+listOf (accepted vs) = vs
+listOf (refused number at) = []
+
+abbrev pub CountAt : List ℕ → ℕ → ℕ → ℕ → ℕ → ℕ → Type 0
+CountAt bs i given level count next = (k : Read) → numberAt bs i ≡ accepted k → (level ≡ given) × ((count ≡ k .value) × (next ≡ k .next))
+
+abbrev pub PairAt : List ℕ → ℕ → ℕ → ℕ → ℕ → Type 0
+PairAt bs i level count next =
+    (l k : Read) → numberAt bs i ≡ accepted l → l .value < 256 → numberAt bs (l .next) ≡ accepted k
+    → (level ≡ l .value) × ((count ≡ k .value) × (next ≡ k .next))

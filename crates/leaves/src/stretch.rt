@@ -1,0 +1,97 @@
+// Leaves of one root and level, written into three columns: column by column, so that the machine stores many at a time.
+ghost use mathlib.Core.Path.{_≡_};
+ghost use mathlib.Core.Bool.{_&&_};
+ghost use Prim.Native.Nat.{_+_, _≤_};
+ghost use lib.Dec.{leb};
+ghost use lib.ListN.{length};
+ghost use lib.Seq.{sets};
+ghost use Rattle.paper.specs.Outcome.{rows};
+ghost use Rattle.leaves.specs.Stretch.{stretch, Ran};
+
+// Whether so many leaves fit from an entry and a position on, by the columns' lengths.
+pub(crate) fn fits(
+    at: usize,
+    count: usize,
+    position: u64,
+    roots: usize,
+    levels: usize,
+    positions: usize,
+) -> bool
+    ensures { λ r. ⌜ r ≡ (leb (position + count) 18446744073709551615 && (leb (at + count) roots && (leb (at + count) levels && leb (at + count) positions))) ⌝ }
+{
+    if 18446744073709551615 - position < count as u64 {
+        return false;
+    }
+    if !within(at, count, roots) {
+        return false;
+    }
+    if !within(at, count, levels) {
+        return false;
+    }
+    within(at, count, positions)
+}
+
+// Whether so many entries from one on lie within a column.
+fn within(at: usize, count: usize, length: usize) -> bool
+    ensures { λ r. ⌜ r ≡ leb (at + count) length ⌝ }
+{
+    if length < count {
+        return false;
+    }
+    at <= length - count
+}
+
+// The three columns in turn.
+pub(crate) fn write(
+    at: usize,
+    count: usize,
+    root: u16,
+    level: u8,
+    position: u64,
+    roots: &mut [u16],
+    levels: &mut [u8],
+    positions: &mut [u64],
+)
+    requires { ⌜ (position + count ≤ 18446744073709551615) × ((at + count ≤ length (now roots)) × ((at + count ≤ length (now levels)) × (at + count ≤ length (now positions)))) ⌝ }
+    ensures { λ _. ⌜ Ran at (stretch root level position count) (now (roots .entry)) (now (levels .entry)) (now (positions .entry)) (now (roots .exit)) (now (levels .exit)) (now (positions .exit)) ⌝ }
+{
+    in_roots(at, count, root, roots);
+    in_levels(at, count, level, levels);
+    in_positions(at, count, position, positions);
+}
+
+// One root's number for so many entries.
+pub(crate) fn in_roots(at: usize, count: usize, root: u16, roots: &mut [u16])
+    requires { ⌜ at + count ≤ length (now roots) ⌝ }
+    ensures { λ _. ⌜ now (roots .exit) ≡ sets (now (roots .entry)) at (rows (λ t. root) 0 count) ⌝ }
+{
+    let mut t = 0;
+    while t < count {
+        roots[at + t] = root;
+        t += 1;
+    }
+}
+
+// One level for so many entries.
+pub(crate) fn in_levels(at: usize, count: usize, level: u8, levels: &mut [u8])
+    requires { ⌜ at + count ≤ length (now levels) ⌝ }
+    ensures { λ _. ⌜ now (levels .exit) ≡ sets (now (levels .entry)) at (rows (λ t. level) 0 count) ⌝ }
+{
+    let mut t = 0;
+    while t < count {
+        levels[at + t] = level;
+        t += 1;
+    }
+}
+
+// The positions from one on.
+fn in_positions(at: usize, count: usize, position: u64, positions: &mut [u64])
+    requires { ⌜ (position + count ≤ 18446744073709551615) × (at + count ≤ length (now positions)) ⌝ }
+    ensures { λ _. ⌜ now (positions .exit) ≡ sets (now (positions .entry)) at (rows (λ t. position + t) 0 count) ⌝ }
+{
+    let mut t = 0;
+    while t < count {
+        positions[at + t] = position + t as u64;
+        t += 1;
+    }
+}

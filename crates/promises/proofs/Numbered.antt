@@ -1,0 +1,202 @@
+-- Every refusal has one of the paper's numbers: each test of a call has one, and no fault is above 24. Assumes nothing.
+use mathlib.Core.Path.{_≡_, refl, ap, sym, subst}
+use mathlib.Core.Bool.{Bool, true, false, not, cond, _&&_, _||_, and-eq-true-iff}
+use mathlib.Core.List.{List, [], _∷_, _++_}
+use Prim.Native.Nat.{ℕ, zero, suc, _+_, _-_, _*_, _^_, _≤_}
+use native.Mathlib.Omega.{arith}
+use lib.Dec.{leb, ltb, eqb}
+use lib.ListN.{length, getD}
+use borrow.Author.Tests.{not-true, eqb-false, leb-true}
+use Rattle.paper.specs.Outcome.{Outcome, accepted, refused, passed, refuse-when-at, fault-when, mapped, scan}
+use Rattle.paper.proofs.Scan.{never}
+use Rattle.tree.specs.Shape.{Shape}
+use Rattle.leaves.specs.Leaves.{Leaf, leaves, Place, place, endOf}
+use Rattle.leaves.specs.Calls.{limit, outOfRange, equalColumns, leafFault, walked, listed}
+use Rattle.balance.specs.Balance.{balanced}
+use Rattle.adaption.specs.Adaption.{mark, adapted}
+use Rattle.adaption.specs.Calls.{markFault, depthFault, numbers, marked}
+use Rattle.shares.specs.Calls.{weightFault}
+use Rattle.gridfile.specs.File.{fileOf}
+use Rattle.gridfile.specs.Numbers.{read, byteAt, numberAt}
+use Rattle.gridfile.specs.Reading.{and-then, opens, head, afterRuns, afterRoots, headAt, fits, leavesOf, after, runRead, afterCount, afterLevel, runAt, runsAt, headed, gridAt, fitted}
+use Rattle.corners.specs.declared.Root.{Root}
+use Rattle.corners.specs.CornerPoints.{rootWithin, cornerPoint}
+use Rattle.tree.specs.Words
+use Rattle.tree.specs.Calls as calls
+use Rattle.leaves.specs.Calls as lists
+use Rattle.gridfile.specs.Calls as files
+use Rattle.promises.specs.Demand1.{Numbered, OnElements, OnLists}
+
+-- a number of the paper
+abbrev Said : ℕ → Type 0
+Said number = (1 ≤ number) × (number ≤ 24)
+
+pub fine : {A : Type 0} (a : A) → Numbered (accepted a)
+fine a = record { said = λ number at e. never a number at (sym e) }
+
+refusal : {A : Type 0} (number at : ℕ) → Said number → Numbered {A = A} (refused number at)
+refusal {A} number at known = record { said = λ other place e. subst Said (ap numberOf e) known }
+  where
+    numberOf : Outcome A → ℕ
+    numberOf (accepted a) = 0
+    numberOf (refused m j) = m
+
+-- a number that is known, tested by computing
+abbrev listed-number : ℕ → Bool
+listed-number number = leb 1 number && leb number 24
+
+pub when : {A : Type 0} (t : Bool) (number at : ℕ) {o : Outcome A} → listed-number number ≡ true → Numbered o → Numbered (refuse-when-at t number at o)
+when true number at known rest =
+    let both = and-eq-true-iff (leb 1 number) (leb number 24) .0 known in refusal number at (leb-true 1 number (both .0), leb-true number 24 (both .1))
+when false number at known rest = rest
+
+-- ---- faults
+pub fault-few : (t : Bool) (number rest : ℕ) → number ≤ 24 → rest ≤ 24 → fault-when t number rest ≤ 24
+fault-few true number rest few later = few
+fault-few false number rest few later = later
+
+-- a fault that is not 0 and not above 24
+pub fault-said : {A : Type 0} (number at : ℕ) (o : Outcome A) → number ≤ 24 → Numbered o → Numbered (refuse-when-at (not (eqb number 0)) number at o)
+fault-said number at o few rest = by (not (eqb number 0)) refl
+  where
+    above : (eqb number 0 ≡ false) → 1 ≤ number
+    above other = let some = eqb-false number 0 other in omega arith
+
+    by : (t : Bool) → not (eqb number 0) ≡ t → Numbered (refuse-when-at t number at o)
+    by true e = refusal number at (above (not-true (eqb number 0) e), few)
+    by false e = rest
+
+pub in-turn : {A B : Type 0} (fault : A → ℕ) → ((e : A) → fault e ≤ 24) → (i : ℕ) (es : List A) (rest : Outcome B) → Numbered rest → Numbered (scan fault i es rest)
+in-turn fault few i [] rest known = known
+in-turn fault few i (e ∷ es) rest known = fault-said (fault e) i (scan fault (suc i) es rest) (few e) (in-turn fault few (suc i) es rest known)
+
+-- ---- outcomes after outcomes
+pub mapped-said : {A B : Type 0} (g : A → B) (o : Outcome A) → Numbered o → Numbered (mapped g o)
+mapped-said g (accepted a) known = fine (g a)
+mapped-said g (refused number at) known = refusal number at (known .said number at refl)
+
+pub then-said : {A B : Type 0} (o : Outcome A) (f : A → Outcome B) → Numbered o → ((a : A) → Numbered (f a)) → Numbered (and-then o f)
+then-said (accepted a) f known later = later a
+then-said (refused number at) f known later = refusal number at (known .said number at refl)
+
+pub either : {A : Type 0} (t : Bool) (o p : Outcome A) → Numbered o → Numbered p → Numbered (cond t o p)
+either true o p first second = first
+either false o p first second = second
+
+-- ---- elements
+module _ {E : Type 0} (S : Shape E) (few : (e : E) → S .fault e ≤ 24) (across : (e : E) (i : ℕ) → Numbered (S .neighbour e i)) where
+  descendant : (which : E → ℕ → E) (e : E) (l : ℕ) → Numbered (calls.descendant S which e l)
+  descendant which e l = fault-said (S .fault e) 0 _ (few e) (when (ltb (S .highest) l) 1 0 refl (when (ltb l (S .level e)) 6 0 refl (fine (which e l))))
+
+  pub on-elements : OnElements S
+  on-elements =
+      record {
+        at = λ l p. when (ltb (S .highest) l) 1 0 refl (when (leb (S .children ^ l) p) 5 0 refl (fine (Words.at S l p)));
+        position = λ e. fault-said (S .fault e) 0 _ (few e) (fine (Words.position S e));
+        parent = λ e. fault-said (S .fault e) 0 _ (few e) (when (eqb (S .level e) 0) 6 0 refl (fine (S .parent e)));
+        child = λ e i. fault-said (S .fault e) 0 _ (few e) (when (leb (S .highest) (S .level e)) 7 0 refl (when (leb (S .children) i) 8 0 refl (fine (S .child e i))));
+        successor = λ e. fault-said (S .fault e) 0 _ (few e) (when (eqb (Words.position S e + 1) (S .children ^ S .level e)) 9 0 refl (fine (Words.successor S e)));
+        first = descendant (Words.first S);
+        last = descendant (Words.last S);
+        neighbour = λ e i. fault-said (S .fault e) 0 _ (few e) (when (leb (S .faces) i) 8 0 refl (across e i));
+        family = λ equal es. when (not equal) 11 0 refl (in-turn (S .fault) few 0 es _ (fine (Words.family S es)));
+        order = λ e f. in-turn (S .fault) few 0 (e ∷ f ∷ []) _ (fine (Words.order S e f));
+      }
+
+-- ---- lists
+module _ (n L : ℕ) where
+  leaf-few : (K : ℕ) (c : Place) (v : Leaf) → leafFault n L K c v ≤ 24
+  leaf-few K c v =
+      fault-few (ltb L (v .level)) 1 _ (omega arith) (fault-few (leb (n ^ v .level) (v .position)) 5 _ (omega arith) (fault-few (not (lists.starts n L K c v)) 12 0 (omega arith) (omega arith)))
+
+  walked-said : {A : Type 0} (K i : ℕ) (c : Place) (vs : List Leaf) (rest : Outcome A) → Numbered rest → Numbered (walked n L K i c vs rest)
+  unfolding walked
+  walked-said K i c [] rest known = when (not (eqb (c .root) K && eqb (c .cell) 0)) 12 i refl known
+  walked-said K i c (v ∷ vs) rest known =
+      fault-said (leafFault n L K c v) i (walked n L K (suc i) (endOf n L v) vs rest) (leaf-few K c v) (walked-said K (suc i) (endOf n L v) vs rest known)
+
+  pub listed-said : {A : Type 0} (K : ℕ) (inRange fitting : Bool) (rs ls ps : List ℕ) (rest : Outcome A) → Numbered rest → Numbered (listed n L K inRange fitting rs ls ps rest)
+  listed-said K inRange fitting rs ls ps rest known =
+      when (outOfRange K || not inRange) 17 0 refl
+      (when (not (equalColumns rs ls ps && fitting)) 11 0 refl
+      (when (eqb (length rs) 0 || ltb limit (length rs)) 11 0 refl
+      (walked-said K 0 (place 0 0) (leaves rs ls ps) rest known)))
+
+-- ---- files
+number-said : (bs : List ℕ) (i : ℕ) → Numbered (numberAt bs i)
+number-said bs i =
+    when (leb (length bs) i) 19 i refl
+    (either (ltb (byteAt bs i) 128) _ _ (fine (read (byteAt bs i) (i + 1)))
+    (when (leb (length bs) (i + 1)) 19 i refl
+    (when (eqb (byteAt bs (i + 1)) 0) 20 i refl
+    (either (ltb (byteAt bs (i + 1)) 128) _ _ (fine (read (byteAt bs i - 128 + 128 * byteAt bs (i + 1)) (i + 2)))
+    (when (leb (length bs) (i + 2)) 19 i refl
+    (when (eqb (byteAt bs (i + 2)) 0) 20 i refl
+    (when (leb 128 (byteAt bs (i + 2))) 20 i refl
+    (fine (read (byteAt bs i - 128 + 128 * (byteAt bs (i + 1) - 128) + 16384 * byteAt bs (i + 2)) (i + 3))))))))))
+
+head-said : (bs : List ℕ) → Numbered (headAt bs)
+head-said bs =
+    when (not (opens bs)) 18 0 refl (then-said (numberAt bs 4) (afterRoots bs) (number-said bs 4) (λ k.
+    when (outOfRange (k .value)) 17 4 refl (then-said (numberAt bs (k .next)) (afterRuns k) (number-said bs (k .next)) (λ r.
+    when (eqb (r .value) 0 || ltb limit (r .value)) 21 (k .next) refl (fine (head (k .value) (r .value) (r .next)))))))
+
+module _ (n L : ℕ) (bs : List ℕ) (K : ℕ) where
+  run-said : (i before : ℕ) (c : Place) (N : ℕ) → Numbered (runAt n L bs K i before c N)
+  run-said i before c N =
+      then-said (numberAt bs i) (afterLevel n L bs K i before c N) (number-said bs i) (λ l.
+      when (ltb L (l .value)) 1 i refl (when (eqb before (l .value)) 21 i refl
+      (then-said (numberAt bs (l .next)) (afterCount n L K i c N l) (number-said bs (l .next)) (λ k.
+      when (eqb (k .value) 0) 21 (l .next) refl (when (ltb limit (N + k .value)) 15 (l .next) refl
+      (when (not (fits n L K c (l .value) (k .value))) 12 i refl (fine (runRead (l .value) (k .value) (k .next)))))))))
+
+  runs-said : (R i before : ℕ) (c : Place) (N : ℕ) → Numbered (runsAt n L bs K R i before c N)
+  unfolding runsAt
+  runs-said zero i before c N = when (not (eqb (c .root) K && eqb (c .cell) 0)) 12 i refl (when (ltb i (length bs)) 22 i refl (fine []))
+  runs-said (suc R) i before c N =
+      then-said (runAt n L bs K i before c N) _ (run-said i before c N) (λ r.
+      mapped-said (λ (vs : List Leaf). leavesOf n L c (r .level) (r .count) ++ vs) (runsAt n L bs K R (r .next) (r .level) (after n L c (r .level) (r .count)) (N + r .count))
+      (runs-said R (r .next) (r .level) (after n L c (r .level) (r .count)) (N + r .count)))
+
+grid-said : (n L : ℕ) (bs : List ℕ) → Numbered (gridAt n L bs)
+grid-said n L bs =
+    then-said (headAt bs) (headed n L bs) (head-said bs) (λ h.
+    mapped-said (λ (vs : List Leaf). record { roots = h .roots; leaves = vs }) (runsAt n L bs (h .roots) (h .runs) (h .next) (suc L) (place 0 0) 0)
+    (runs-said n L bs (h .roots) (h .runs) (h .next) (suc L) (place 0 0) 0))
+
+-- ---- the calls' last tests
+room-said : (room needed : ℕ) → Numbered (files.sized needed room)
+room-said room needed = when (ltb room needed) 14 needed refl (fine needed)
+
+marks-said : (ls ms : List ℕ) (rest : Outcome ℕ) → Numbered rest → Numbered (marked 21 ls ms rest)
+marks-said ls ms rest known =
+    in-turn (markFault ms) (λ i. fault-few (ltb 2 (mark ms i)) 13 0 (omega arith) (omega arith)) 0 (numbers (length ms)) _
+    (in-turn (depthFault 21 ls ms) (λ i. fault-few (eqb (mark ms i) 1 && leb 21 (getD ls i 0)) 7 0 (omega arith) (omega arith)) 0 (numbers (length ms)) rest known)
+
+pub on-lists : OnLists
+on-lists =
+    record {
+      check = λ K rs ls ps. listed-said 8 21 K true true rs ls ps passed (fine tt);
+      uniform = λ K l equal room.
+          when (outOfRange K) 17 0 refl (when (not equal) 11 0 refl (when (ltb 21 l) 1 0 refl (when (ltb limit (K * 8 ^ l)) 15 0 refl (room-said room (K * 8 ^ l)))));
+      balanced = λ K rs ls ps. listed-said 8 21 K true true rs ls ps _ (fine (balanced (leaves rs ls ps)));
+      adaption = λ K rs ls ps ms equal room.
+          listed-said 8 21 K true (eqb (length rs) (length ms) && equal) rs ls ps _
+          (marks-said ls ms _ (when (ltb limit (length (adapted 8 (leaves rs ls ps) ms))) 15 0 refl (room-said room (length (adapted 8 (leaves rs ls ps) ms)))));
+      shares = λ K P rs ls ps ws room.
+          listed-said 8 21 K (not (outOfRange P)) (eqb (length rs) (length ws)) rs ls ps _
+          (in-turn weightFault (λ w. fault-few (eqb w 0) 16 0 (omega arith) (omega arith)) 0 ws _ (when (ltb room (P + 1)) 14 (P + 1) refl (fine tt)));
+      writing = λ K rs ls ps room. listed-said 8 21 K true true rs ls ps _ (room-said room (length (fileOf K (leaves rs ls ps))));
+      reading = λ bytes equal room.
+          when (not equal) 11 0 refl (then-said (gridAt 8 21 bytes) (fitted room) (grid-said 8 21 bytes) (λ g. when (ltb room (length (g .leaves))) 14 (length (g .leaves)) refl (fine g)));
+    }
+
+-- ---- points
+pub on-points : (l p i : ℕ) (r : Root) → Numbered (cornerPoint l p i r)
+unfolding cornerPoint
+on-points l p i r =
+    when (ltb 21 l) 1 0 refl
+    (when (leb (8 ^ l) p) 5 0 refl
+    (when (leb 6 i) 8 0 refl
+    (when (not (rootWithin r)) 24 0 refl
+    (fine _))))
