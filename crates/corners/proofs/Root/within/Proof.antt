@@ -49,7 +49,7 @@ all-within-requires c κs = search needs
 
 returns : tie.Need-returns
 returns c =
-    let self = (c .before .before .before .before .before .args .self) in
+    let self = c .before .before .before .before .before .args .self in
     let f = fits-of (c .before .before .before .before) in
     fails _ (read (self .v0) (f .c0) (c .before .all-within .ensures)) (c .if1 .taken)
 
@@ -58,9 +58,13 @@ all-within-requires-2 c κs = search needs
 
 returns-2 : tie.Need-returns-2
 returns-2 c =
-    let self = (c .before .before .before .before .before .before .before .before .before .before .args .self) in
-    let f = fits-of (c .before .before .before .before .before .before .before .before .before) in
-    holds _ (read (self .v0) (f .c0) (c .before .before .before .before .before .before .all-within .ensures)) (c .before .before .before .before .before .if1 .left)
+    let at-if1 = c .before .before .before .before .before in
+    let at-all-within = c .before .before .before .before .before .before in
+    let told = c .before .before .before .before .before .before .before .before .before in
+    let start = c .before .before .before .before .before .before .before .before .before .before in
+    let self = start .args .self in
+    let f = fits-of told in
+    holds _ (read (self .v0) (f .c0) (at-all-within .all-within .ensures)) (at-if1 .if1 .left)
     (fails _ (read (self .v1) (f .c1) (c .before .all-within2 .ensures)) (c .if2 .taken))
 
 all-within-requires-3 : tie.Need-all-within-requires-3
@@ -68,10 +72,16 @@ all-within-requires-3 c κs = search needs
 
 returns-3 : tie.Need-returns-3
 returns-3 c =
-    let self = (c .before .before .before .before .before .before .before .before .before .before .before .before .before .before .before .args .self) in
-    let f = fits-of (c .before .before .before .before .before .before .before .before .before .before .before .before .before .before) in
-    holds _ (read (self .v0) (f .c0) (c .before .before .before .before .before .before .before .before .before .before .before .all-within .ensures)) (c .before .before .before .before .before .before .before .before .before .before .if1 .left)
-    (holds _ (read (self .v1) (f .c1) (c .before .before .before .before .before .before .all-within2 .ensures)) (c .before .before .before .before .before .if2 .left)
+    let at-if2 = c .before .before .before .before .before in
+    let at-all-within2 = c .before .before .before .before .before .before in
+    let at-if1 = c .before .before .before .before .before .before .before .before .before .before in
+    let at-all-within = c .before .before .before .before .before .before .before .before .before .before .before in
+    let told = c .before .before .before .before .before .before .before .before .before .before .before .before .before .before in
+    let start = c .before .before .before .before .before .before .before .before .before .before .before .before .before .before .before in
+    let self = start .args .self in
+    let f = fits-of told in
+    holds _ (read (self .v0) (f .c0) (at-all-within .all-within .ensures)) (at-if1 .if1 .left)
+    (holds _ (read (self .v1) (f .c1) (at-all-within2 .all-within2 .ensures)) (at-if2 .if2 .left)
     (fails _ (read (self .v2) (f .c2) (c .before .all-within3 .ensures)) (c .if3 .taken)))
 
 all-within-requires-4 : tie.Need-all-within-requires-4
@@ -79,11 +89,19 @@ all-within-requires-4 c κs = search needs
 
 returns-4 : tie.Need-returns-4
 returns-4 c =
-    let self = (c .before .before .before .before .before .before .before .before .before .before .before .before .before .before .before .before .before .before .before .before .args .self) in
-    let f = fits-of (c .before .before .before .before .before .before .before .before .before .before .before .before .before .before .before .before .before .before .before) in
-    holds _ (read (self .v0) (f .c0) (c .before .before .before .before .before .before .before .before .before .before .before .before .before .before .before .before .all-within .ensures)) (c .before .before .before .before .before .before .before .before .before .before .before .before .before .before .before .if1 .left)
-    (holds _ (read (self .v1) (f .c1) (c .before .before .before .before .before .before .before .before .before .before .before .all-within2 .ensures)) (c .before .before .before .before .before .before .before .before .before .before .if2 .left)
-    (holds _ (read (self .v2) (f .c2) (c .before .before .before .before .before .before .all-within3 .ensures)) (c .before .before .before .before .before .if3 .left)
+    let at-if3 = c .before .before .before .before .before in
+    let at-all-within3 = c .before .before .before .before .before .before in
+    let at-if2 = c .before .before .before .before .before .before .before .before .before .before in
+    let at-all-within2 = c .before .before .before .before .before .before .before .before .before .before .before in
+    let at-if1 = c .before .before .before .before .before .before .before .before .before .before .before .before .before .before .before in
+    let at-all-within = c .before .before .before .before .before .before .before .before .before .before .before .before .before .before .before .before in
+    let told = c .before .before .before .before .before .before .before .before .before .before .before .before .before .before .before .before .before .before .before in
+    let start = c .before .before .before .before .before .before .before .before .before .before .before .before .before .before .before .before .before .before .before .before in
+    let self = start .args .self in
+    let f = fits-of told in
+    holds _ (read (self .v0) (f .c0) (at-all-within .all-within .ensures)) (at-if1 .if1 .left)
+    (holds _ (read (self .v1) (f .c1) (at-all-within2 .all-within2 .ensures)) (at-if2 .if2 .left)
+    (holds _ (read (self .v2) (f .c2) (at-all-within3 .all-within3 .ensures)) (at-if3 .if3 .left)
     (fails _ (read (self .v3) (f .c3) (c .before .all-within4 .ensures)) (c .if4 .taken))))
 
 all-within-requires-5 : tie.Need-all-within-requires-5
@@ -91,12 +109,22 @@ all-within-requires-5 c κs = search needs
 
 returns-5 : tie.Need-returns-5
 returns-5 c =
-    let self = (c .before .before .before .before .before .before .before .before .before .before .before .before .before .before .before .before .before .before .before .before .before .before .before .before .before .args .self) in
-    let f = fits-of (c .before .before .before .before .before .before .before .before .before .before .before .before .before .before .before .before .before .before .before .before .before .before .before .before) in
-    holds _ (read (self .v0) (f .c0) (c .before .before .before .before .before .before .before .before .before .before .before .before .before .before .before .before .before .before .before .before .before .all-within .ensures)) (c .before .before .before .before .before .before .before .before .before .before .before .before .before .before .before .before .before .before .before .before .if1 .left)
-    (holds _ (read (self .v1) (f .c1) (c .before .before .before .before .before .before .before .before .before .before .before .before .before .before .before .before .all-within2 .ensures)) (c .before .before .before .before .before .before .before .before .before .before .before .before .before .before .before .if2 .left)
-    (holds _ (read (self .v2) (f .c2) (c .before .before .before .before .before .before .before .before .before .before .before .all-within3 .ensures)) (c .before .before .before .before .before .before .before .before .before .before .if3 .left)
-    (holds _ (read (self .v3) (f .c3) (c .before .before .before .before .before .before .all-within4 .ensures)) (c .before .before .before .before .before .if4 .left)
+    let at-if4 = c .before .before .before .before .before in
+    let at-all-within4 = c .before .before .before .before .before .before in
+    let at-if3 = c .before .before .before .before .before .before .before .before .before .before in
+    let at-all-within3 = c .before .before .before .before .before .before .before .before .before .before .before in
+    let at-if2 = c .before .before .before .before .before .before .before .before .before .before .before .before .before .before .before in
+    let at-all-within2 = c .before .before .before .before .before .before .before .before .before .before .before .before .before .before .before .before in
+    let at-if1 = c .before .before .before .before .before .before .before .before .before .before .before .before .before .before .before .before .before .before .before .before in
+    let at-all-within = c .before .before .before .before .before .before .before .before .before .before .before .before .before .before .before .before .before .before .before .before .before in
+    let told = c .before .before .before .before .before .before .before .before .before .before .before .before .before .before .before .before .before .before .before .before .before .before .before .before in
+    let start = c .before .before .before .before .before .before .before .before .before .before .before .before .before .before .before .before .before .before .before .before .before .before .before .before .before in
+    let self = start .args .self in
+    let f = fits-of told in
+    holds _ (read (self .v0) (f .c0) (at-all-within .all-within .ensures)) (at-if1 .if1 .left)
+    (holds _ (read (self .v1) (f .c1) (at-all-within2 .all-within2 .ensures)) (at-if2 .if2 .left)
+    (holds _ (read (self .v2) (f .c2) (at-all-within3 .all-within3 .ensures)) (at-if3 .if3 .left)
+    (holds _ (read (self .v3) (f .c3) (at-all-within4 .all-within4 .ensures)) (at-if4 .if4 .left)
     (fails _ (read (self .v4) (f .c4) (c .before .all-within5 .ensures)) (c .if5 .taken)))))
 
 all-within-requires-6 : tie.Need-all-within-requires-6
@@ -104,13 +132,25 @@ all-within-requires-6 c κs = search needs
 
 returns-6 : tie.Need-returns-6
 returns-6 c =
-    let self = (c .before .before .before .before .before .before .before .before .before .before .before .before .before .before .before .before .before .before .before .before .before .before .before .before .before .before .before .before .before .args .self) in
-    let f = fits-of (c .before .before .before .before .before .before .before .before .before .before .before .before .before .before .before .before .before .before .before .before .before .before .before .before .before .before .before .before) in
-    holds _ (read (self .v0) (f .c0) (c .before .before .before .before .before .before .before .before .before .before .before .before .before .before .before .before .before .before .before .before .before .before .before .before .before .all-within .ensures)) (c .before .before .before .before .before .before .before .before .before .before .before .before .before .before .before .before .before .before .before .before .before .before .before .before .if1 .left)
-    (holds _ (read (self .v1) (f .c1) (c .before .before .before .before .before .before .before .before .before .before .before .before .before .before .before .before .before .before .before .before .all-within2 .ensures)) (c .before .before .before .before .before .before .before .before .before .before .before .before .before .before .before .before .before .before .before .if2 .left)
-    (holds _ (read (self .v2) (f .c2) (c .before .before .before .before .before .before .before .before .before .before .before .before .before .before .before .all-within3 .ensures)) (c .before .before .before .before .before .before .before .before .before .before .before .before .before .before .if3 .left)
-    (holds _ (read (self .v3) (f .c3) (c .before .before .before .before .before .before .before .before .before .before .all-within4 .ensures)) (c .before .before .before .before .before .before .before .before .before .if4 .left)
-    (holds _ (read (self .v4) (f .c4) (c .before .before .before .before .before .all-within5 .ensures)) (c .before .before .before .before .if5 .left)
+    let at-if5 = c .before .before .before .before in
+    let at-all-within5 = c .before .before .before .before .before in
+    let at-if4 = c .before .before .before .before .before .before .before .before .before in
+    let at-all-within4 = c .before .before .before .before .before .before .before .before .before .before in
+    let at-if3 = c .before .before .before .before .before .before .before .before .before .before .before .before .before .before in
+    let at-all-within3 = c .before .before .before .before .before .before .before .before .before .before .before .before .before .before .before in
+    let at-if2 = c .before .before .before .before .before .before .before .before .before .before .before .before .before .before .before .before .before .before .before in
+    let at-all-within2 = c .before .before .before .before .before .before .before .before .before .before .before .before .before .before .before .before .before .before .before .before in
+    let at-if1 = c .before .before .before .before .before .before .before .before .before .before .before .before .before .before .before .before .before .before .before .before .before .before .before .before in
+    let at-all-within = c .before .before .before .before .before .before .before .before .before .before .before .before .before .before .before .before .before .before .before .before .before .before .before .before .before in
+    let told = c .before .before .before .before .before .before .before .before .before .before .before .before .before .before .before .before .before .before .before .before .before .before .before .before .before .before .before .before in
+    let start = c .before .before .before .before .before .before .before .before .before .before .before .before .before .before .before .before .before .before .before .before .before .before .before .before .before .before .before .before .before in
+    let self = start .args .self in
+    let f = fits-of told in
+    holds _ (read (self .v0) (f .c0) (at-all-within .all-within .ensures)) (at-if1 .if1 .left)
+    (holds _ (read (self .v1) (f .c1) (at-all-within2 .all-within2 .ensures)) (at-if2 .if2 .left)
+    (holds _ (read (self .v2) (f .c2) (at-all-within3 .all-within3 .ensures)) (at-if3 .if3 .left)
+    (holds _ (read (self .v3) (f .c3) (at-all-within4 .all-within4 .ensures)) (at-if4 .if4 .left)
+    (holds _ (read (self .v4) (f .c4) (at-all-within5 .all-within5 .ensures)) (at-if5 .if5 .left)
     (read (self .v5) (f .c5) (c .all-within6 .ensures))))))
 
 pub within-spec : {M : Type 1} → statement M

@@ -20,8 +20,9 @@ shrunk-requires c κs =
 
 returns : tie.Need-returns
 returns c =
+    let start = c .before .before in
     (c .shrunk .ensures)
-    ∙ ap coordinate (kept (2 ^ 51) (c .before .scaled .ensures) (axis-bound (c .before .before .args .a) (c .before .before .args .p) (c .before .before .pre .0) (c .before .before .pre .1)) (lit≤ tt))
+    ∙ ap coordinate (kept (2 ^ 51) (c .before .scaled .ensures) (axis-bound (start .args .a) (start .args .p) (start .pre .0) (start .pre .1)) (lit≤ tt))
 
 pub measured-spec : {M : Type 1} → statement M
 measured-spec = tie.close (tie.spec scaled-requires shrunk-requires returns)

@@ -19,17 +19,21 @@ ys-requires : tie.Need-ys-requires
 ys-requires c κs = search needs
 
 measured-requires-2 : tie.Need-measured-requires-2
-measured-requires-2 c κs = (subst⁻¹ Near (c .ys .ensures) (near-ys (c .before .before .before .args .root) (c .before .before .before .pre .0)), (c .before .before .before .pre .1))
+measured-requires-2 c κs =
+    let start = c .before .before .before in
+    (subst⁻¹ Near (c .ys .ensures) (near-ys (start .args .root) (start .pre .0)), (start .pre .1))
 
 zs-requires : tie.Need-zs-requires
 zs-requires c κs = search needs
 
 measured-requires-3 : tie.Need-measured-requires-3
-measured-requires-3 c κs = (subst⁻¹ Near (c .zs .ensures) (near-zs (c .before .before .before .before .before .args .root) (c .before .before .before .before .before .pre .0)), (c .before .before .before .before .before .pre .1))
+measured-requires-3 c κs =
+    let start = c .before .before .before .before .before in
+    (subst⁻¹ Near (c .zs .ensures) (near-zs (start .args .root) (start .pre .0)), (start .pre .1))
 
 returns : tie.Need-returns
 returns c =
-    let p = (c .before .before .before .before .before .before .args .p) in
+    let p = c .before .before .before .before .before .before .args .p in
     let at : Axis → Float = λ a. coordinate (q (along a) (p .x) (p .y) (p .z)) in
     λ i. record {
       x = ((c .before .before .before .before .measured .ensures) ∙ ap at (c .before .before .before .before .before .xs .ensures)) i;

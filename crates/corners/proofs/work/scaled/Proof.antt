@@ -32,25 +32,31 @@ module _ (r low high : ℤ) (Z : ℕ) (l : natAbs low ≤ 512) (h : natAbs high 
 
 raised-requires : tie.Need-raised-requires
 raised-requires c κs =
-    let a = (c .before .before .args .a) in let n = (c .before .before .pre .0) in (near (a .v0) (n .near0), (near (a .v3) (n .near3), (c .before .before .pre .1 .upwards)))
+    let start = c .before .before in
+    let a = start .args .a in let n = start .pre .0 in (near (a .v0) (n .near0), (near (a .v3) (n .near3), (start .pre .1 .upwards)))
 
 raised-requires-2 : tie.Need-raised-requires-2
 raised-requires-2 c κs =
-    let a = (c .before .before .before .before .before .args .a) in let n = (c .before .before .before .before .before .pre .0) in (near (a .v1) (n .near1), (near (a .v4) (n .near4), (c .before .before .before .before .before .pre .1 .upwards)))
+    let start = c .before .before .before .before .before in
+    let a = start .args .a in let n = start .pre .0 in (near (a .v1) (n .near1), (near (a .v4) (n .near4), (start .pre .1 .upwards)))
 
 raised-requires-3 : tie.Need-raised-requires-3
 raised-requires-3 c κs =
-    let a = (c .before .before .before .before .before .before .before .before .args .a) in let n = (c .before .before .before .before .before .before .before .before .pre .0) in (near (a .v2) (n .near2), (near (a .v5) (n .near5), (c .before .before .before .before .before .before .before .before .pre .1 .upwards)))
+    let start = c .before .before .before .before .before .before .before .before in
+    let a = start .args .a in let n = start .pre .0 in (near (a .v2) (n .near2), (near (a .v5) (n .near5), (start .pre .1 .upwards)))
 
 blended-requires : tie.Need-blended-requires
 blended-requires c κs =
-    let a = (c .before .before .before .before .before .before .before .before .before .args .a) in
-    let p = (c .before .before .before .before .before .before .before .before .before .args .p) in
-    let n = (c .before .before .before .before .before .before .before .before .before .pre .0) in
-    let s = (c .before .before .before .before .before .before .before .before .before .pre .1) in (
+    let at-raised2 = c .before .before .before in
+    let at-raised = c .before .before .before .before .before .before in
+    let start = c .before .before .before .before .before .before .before .before .before in
+    let a = start .args .a in
+    let p = start .args .p in
+    let n = start .pre .0 in
+    let s = start .pre .1 in (
       record {
-        tall0 = tall _ (a .v0) (a .v3) (p .z) (n .near0) (n .near3) (s .upwards) (c .before .before .before .before .before .before .raised .ensures);
-        tall1 = tall _ (a .v1) (a .v4) (p .z) (n .near1) (n .near4) (s .upwards) (c .before .before .before .raised2 .ensures);
+        tall0 = tall _ (a .v0) (a .v3) (p .z) (n .near0) (n .near3) (s .upwards) (at-raised .raised .ensures);
+        tall1 = tall _ (a .v1) (a .v4) (p .z) (n .near1) (n .near4) (s .upwards) (at-raised2 .raised2 .ensures);
         tall2 = tall _ (a .v2) (a .v5) (p .z) (n .near2) (n .near5) (s .upwards) (c .raised3 .ensures);
       },
       (s .ordered, s .across),
@@ -58,15 +64,18 @@ blended-requires c κs =
 
 returns : tie.Need-returns
 returns c =
-    let a = (c .before .before .before .before .before .before .before .before .before .before .args .a) in
-    let p = (c .before .before .before .before .before .before .before .before .before .before .args .p) in
-    let n = (c .before .before .before .before .before .before .before .before .before .before .pre .0) in
-    let s = (c .before .before .before .before .before .before .before .before .before .before .pre .1) in
+    let at-raised2 = c .before .before .before .before in
+    let at-raised = c .before .before .before .before .before .before .before in
+    let start = c .before .before .before .before .before .before .before .before .before .before in
+    let a = start .args .a in
+    let p = start .args .p in
+    let n = start .pre .0 in
+    let s = start .pre .1 in
     kept (2 ^ 51)
     ((c .blended .ensures)
     ∙ (λ i. blend
-    (again _ (a .v0) (a .v3) (p .z) (n .near0) (n .near3) (s .upwards) (c .before .before .before .before .before .before .before .raised .ensures) i)
-    (again _ (a .v1) (a .v4) (p .z) (n .near1) (n .near4) (s .upwards) (c .before .before .before .before .raised2 .ensures) i)
+    (again _ (a .v0) (a .v3) (p .z) (n .near0) (n .near3) (s .upwards) (at-raised .raised .ensures) i)
+    (again _ (a .v1) (a .v4) (p .z) (n .near1) (n .near4) (s .upwards) (at-raised2 .raised2 .ensures) i)
     (again _ (a .v2) (a .v5) (p .z) (n .near2) (n .near5) (s .upwards) (c .before .raised3 .ensures) i)
     (p .x) (p .y)))
     (axis-bound a p n s) (lit≤ tt)
