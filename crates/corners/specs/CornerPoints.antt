@@ -1,9 +1,11 @@
 -- Document 01, "Corner points": where a corner of an element lies in space. Definitions only.
 --
 --   Corner, Root            "A root has six corners of three signed whole numbers each": v0 to v5; corner r j is vj
---   within                  ".. from -512 to 512": whether a number, a corner's three or a root's eighteen are
+--   within                  ".. from -512 to 512": whether a number is; allWithin, cornerWithin of a corner's three, rootWithin of a
+--                           root's eighteen
 --   t v Z j                 "Tj = 2^21·vj + (v(j+3) - vj)·Z for j = 0, 1, 2", v being one coordinate of the root's corners
 --   q v X Y Z               "Q = 2^21·T0 + (T1-T0)·X + (T2-T1)·Y"
+--   negative z              whether the sign is minus, which that of zero is not
 --   coordinate z            the f64 nearest to z / 2^42, zero as +0; `Laws.antt` says that it has exactly that value
 --   pointAt r c             "The answer is .. a point of three f64", for the local corner c, which is (X, Y, Z)
 --   cornerPoint l p i r     the call: "Points take a level and a position: 1, 5, 8, 24."
@@ -53,7 +55,6 @@ t v Z j = pos (2 ^ 21) *ℤ v j +ℤ (v (j + 3) -ℤ v j) *ℤ pos Z
 abbrev pub q : (ℕ → ℤ) → ℕ → ℕ → ℕ → ℤ
 q v X Y Z = pos (2 ^ 21) *ℤ t v Z 0 +ℤ (t v Z 1 -ℤ t v Z 0) *ℤ pos X +ℤ (t v Z 2 -ℤ t v Z 1) *ℤ pos Y
 
--- whether the sign is minus: not that of zero
 abbrev pub negative : ℤ → Bool
 negative (pos n) = false
 negative (negsuc n) = true

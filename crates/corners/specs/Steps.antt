@@ -1,7 +1,7 @@
 -- The steps of the call: what its own functions ask and answer. Definitions only.
 --
---   Axis            one coordinate of a root's six corners; along a is its vj
---   Local           local (X, Y, Z); at is its corner
+--   Axis            one coordinate of a root's six corners; along a j is its vj; xs, ys, zs are a root's three
+--   Local           local (X, Y, Z); localOf and cornerOf go from the prism's corner to it and back
 --   CornerRow       where a corner of a triangle lies, counted in sides from the anchor
 --   Near            the six numbers are from -512 to 512
 --   mix, Heights    one Tj from its two corners; what is known of the three: from -2^30 to 2^30
