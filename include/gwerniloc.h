@@ -9,8 +9,8 @@
  * call leaves it as it was. A column that is written must overlap no other column of the call. An answer has refusal 0 and
  * the value, or a refusal and a value of zeros. A refusal is place * 256 + number. The place is 0, except that compare and
  * family give the index of the element at fault, 1, 5, 7, 12, 13 and 16 of a list call that of the leaf, 12 of a list that
- * ends early its length, and 14 the entries needed. Each call below names its refusals in the order of the tests; the first
- * that applies is given:
+ * ends early its length, 14 the entries or bytes needed, and reading a file an offset into it. Each call below names its
+ * refusals in the order of the tests; the first that applies is given:
  *
  *    1  level above 21
  *    2  anchor 2^21 or more, or no multiple of h
@@ -25,10 +25,15 @@
  *   11  columns of one list unequal; input list empty or over 1,048,576; marks or weights of another length
  *   12  list doesn't cover as stated
  *   13  mark above 2
- *   14  no room: place = entries needed
+ *   14  no room: place = entries or bytes needed
  *   15  result over 1,048,576 leaves
  *   16  weight 0
  *   17  roots or shares outside 1 to 4,096
+ *   18  first four bytes of a file missing or different
+ *   19  file ends inside or before a number
+ *   20  number not shortest, or third byte with top bit
+ *   21  number of runs outside 1 to 1,048,576; run of 0; level as in the run before
+ *   22  bytes after the last run
  *   24  root corner outside -512 to 512
  */
 #ifndef GWERNILOC_H
@@ -100,6 +105,12 @@ typedef struct gw_order_result {
     uint64_t refusal;
     int32_t value;
 } gw_order_result;
+
+/* A grid that was read: its roots and the number of its leaves. */
+typedef struct gw_grid_result {
+    uint64_t refusal;
+    uint64_t roots, leaves;
+} gw_grid_result;
 
 /* ---- lines */
 
@@ -298,6 +309,24 @@ gw_number_result gw_list_adapt(uint16_t k, const uint16_t *root, size_t root_len
 uint64_t gw_list_shares(uint16_t k, uint16_t p, const uint16_t *root, size_t root_length, const uint8_t *level, size_t level_length,
                         const uint64_t *position, size_t position_length, const uint16_t *weight, size_t weight_length,
                         uint32_t *boundary, size_t boundary_length);
+
+/* ---- the grid file: the bytes 50 47 52 31, the roots, the number of runs, then a level and a leaf count for each run */
+
+/** The file of a list of k roots, at the front of the bytes, and nothing behind it. The value is its length. Refuses:
+ *  17 roots outside 1 to 4,096; 11 columns unequal, empty or over 1,048,576; then at each leaf (place = leaf) 1 level,
+ *  5 position, 12 it does not start where the one before it ended; 12 at the length of a list that ends early; 14 the bytes
+ *  are too few (place = bytes needed). */
+gw_number_result gw_file_write(uint16_t k, const uint16_t *root, size_t root_length, const uint8_t *level, size_t level_length,
+                               const uint64_t *position, size_t position_length, uint8_t *bytes, size_t bytes_length);
+
+/** The list in a file, at the front of the columns, and nothing behind it. Every accepted file holds a valid list. Refuses:
+ *  11 columns unequal; then in the order of the bytes, place = offset of the number's first byte: 18 first four bytes;
+ *  19 and 20 any number; 17 roots outside 1 to 4,096; 21 number of runs outside 1 to 1,048,576; at a level 1 above 21,
+ *  21 as in the run before; at a count 21 it is 0, 15 the list has over 1,048,576 leaves; 12 at the run's level, a leaf of
+ *  the run cannot start where the one before it ended or lies past the last root; after the last run 12 the list ends
+ *  early, 22 bytes are left; 14 the columns are too short (place = entries needed). */
+gw_grid_result gw_file_read(const uint8_t *bytes, size_t bytes_length, uint16_t *root, size_t root_length, uint8_t *level,
+                            size_t level_length, uint64_t *position, size_t position_length);
 
 #ifdef __cplusplus
 }

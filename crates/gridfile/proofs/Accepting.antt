@@ -14,14 +14,15 @@ use Rattle.paper.proofs.Scan.{accepted-of}
 use Rattle.leaves.specs.Leaves.{Leaf, Place, place, Covers}
 use Rattle.leaves.specs.Calls.{limit}
 use Rattle.leaves.proofs.Span.{power-pos}
-use Rattle.gridfile.specs.Numbers.{highest, bytesOf, byteAt, Read, read, numberAt}
-use Rattle.gridfile.specs.File.{run, runsOf, runBytes, tag}
-use Rattle.gridfile.specs.Reading.{Grid, opens, headAt, leavesOf, after, RunRead, runAt, runsAt, gridAt, headed}
-use Rattle.gridfile.specs.Laws.{Bytes, FileOf}
+use Rattle.gridfile.specs.Numbers.{bytesOf, byteAt, Read, read, numberAt}
+use Rattle.gridfile.specs.File.{run, runsOf, runBytes, tag, Differs}
+use Rattle.gridfile.specs.Reading.{head, Grid, opens, headAt, leavesOf, after, RunRead, runAt, runsAt, gridAt, headed}
+use Rattle.gridfile.specs.Laws.{Bytes, ValidGrid, FileOf}
 use Rattle.gridfile.proofs.Coded.{codec}
-use Rattle.gridfile.proofs.Runs.{Differs, leaves-count}
+use Rattle.gridfile.proofs.Runs.{leaves-count}
 use Rattle.gridfile.proofs.Fitting.{Proper, after-proper, fits-covers, run-of}
-use Rattle.gridfile.proofs.Taking.{then-accepted, accepted-same, mapped-accepted, RunTaken, run-taken, head-taken}
+use Rattle.gridfile.proofs.Taking.{then-accepted, accepted-same, mapped-accepted, RunTaken, run-taken, HeadTaken, head-taken}
+use Rattle.gridfile.proofs.AreRuns.{runs-are}
 use Rattle.gridfile.proofs.ReadBack.{runStep, apart}
 
 -- the bytes from i on, parted at j
@@ -35,11 +36,11 @@ number-bytes bs all i r h =
     let w = codec .written-read bs i (r .value) (r .next) all h in
     parted bs i (r .next) (omega (arith, w .2)) (w .1) ∙ ap (λ (xs : List ℕ). xs ++ drop (r .next) bs) (w .3)
 
-module _ (n L K : ℕ) (positive : 0 < n) (bs : List ℕ) (all : Bytes bs) where
+module _ (n L K : ℕ) (positive : 0 < n) (bs : List ℕ) where
   pub record Taken (R i before : ℕ) (c : Place) (N : ℕ) (vs : List Leaf) : Type 0 where
     pub few : N + length vs ≤ limit
     pub many : length (runsOf vs) ≡ R
-    pub bytes : drop i bs ≡ runBytes (runsOf vs)
+    pub bytes : Bytes bs → drop i bs ≡ runBytes (runsOf vs)
     pub other : Differs before (runsOf vs)
     pub covers : Covers n L c vs K
 
@@ -56,8 +57,9 @@ module _ (n L K : ℕ) (positive : 0 < n) (bs : List ℕ) (all : Bytes bs) where
       (record {
         few = omega (arith, later .few, long, leaves-count n L c (r .level) (r .count));
         many = ap length runs ∙ ap suc (later .many);
-        bytes = number-bytes bs all i (read (r .level) (s .after-level)) (s .level)
-            ∙ ap (λ (xs : List ℕ). bytesOf (r .level) ++ xs) (number-bytes bs all (s .after-level) (read (r .count) (r .next)) (s .count) ∙ ap (λ (xs : List ℕ). bytesOf (r .count) ++ xs) (later .bytes))
+        bytes = λ all.
+            number-bytes bs all i (read (r .level) (s .after-level)) (s .level)
+            ∙ ap (λ (xs : List ℕ). bytesOf (r .level) ++ xs) (number-bytes bs all (s .after-level) (read (r .count) (r .next)) (s .count) ∙ ap (λ (xs : List ℕ). bytesOf (r .count) ++ xs) (later .bytes all))
             ∙ sym (ap runBytes runs);
         other = subst (Differs before) (sym runs) (s .other);
         covers = fits-covers n L K positive c (r .level) (r .count) us proper (s .shallow) (s .fit) (later .covers);
@@ -76,7 +78,7 @@ module _ (n L K : ℕ) (positive : 0 < n) (bs : List ℕ) (all : Bytes bs) where
       (record {
         few = omega arith;
         many = refl;
-        bytes = drop-of-length-le bs (ltb-false i (length bs) (b .0));
+        bytes = λ all. drop-of-length-le bs (ltb-false i (length bs) (b .0));
         other = tt;
         covers = ap₂ place (eqb-true (c .root) K (full .0)) (eqb-true (c .cell) 0 (full .1));
       })
@@ -101,23 +103,42 @@ opened bs h =
     ∙ ap (λ (xs : List ℕ). 71 ∷ xs) (drop-cons bs 2 0 (omega arith) ∙ ap (λ (x : ℕ). x ∷ drop 3 bs) (eqb-true (byteAt bs 2) 82 (e .0))
     ∙ ap (λ (xs : List ℕ). 82 ∷ xs) (drop-cons bs 3 0 (omega arith) ∙ ap (λ (x : ℕ). x ∷ drop 4 bs) (eqb-true (byteAt bs 3) 49 (e .1)))))
 
-module _ (n L : ℕ) (positive : 0 < n) (low : L ≤ highest) where
-  pub accepted-file : (bs : List ℕ) (g : Grid) → Bytes bs → gridAt n L bs ≡ accepted g → FileOf n L bs g
-  accepted-file bs g all e =
+module _ (n L : ℕ) (positive : 0 < n) where
+  -- what an accepted file went through
+  pub record FileTaken (bs : List ℕ) (g : Grid) : Type 0 where
+    pub runs : ℕ
+    pub next : ℕ
+    pub front : HeadTaken bs (head (g .roots) runs next)
+    pub rest : Taken n L (g .roots) positive bs runs next (suc L) (place 0 0) 0 (g .leaves)
+
+  pub file-taken : (bs : List ℕ) (g : Grid) → gridAt n L bs ≡ accepted g → FileTaken bs g
+  file-taken bs g e =
       let top = then-accepted (headAt bs) (headed n L bs) g e in
       let h = top .0 in
-      let t = head-taken bs h (top .1 .0) in
       let grid = mapped-accepted (λ (vs : List Leaf). record { roots = h .roots; leaves = vs }) _ g (top .1 .1) in
-      let vs = grid .0 in
-      let u = taken n L (h .roots) positive bs all (h .runs) (h .next) (suc L) (place 0 0) 0 vs (omega arith) (power-pos n L positive) (grid .1 .0) in
-      subst (FileOf n L bs) (grid .1 .1)
+      subst (FileTaken bs) (grid .1 .1)
       (record {
-        some-root = t .some-root;
-        few-roots = t .few-roots;
-        few = omega (arith, u .few);
-        valid = u .covers;
-        file = opened bs (t .tagged)
-            ∙ ap (λ (xs : List ℕ). tag ++ xs) (number-bytes bs all 4 (read (h .roots) (t .after-roots)) (t .roots)
-            ∙ ap (λ (xs : List ℕ). bytesOf (h .roots) ++ xs) (number-bytes bs all (t .after-roots) (read (h .runs) (h .next)) (t .runs)
-            ∙ ap₂ (λ (m : ℕ) (xs : List ℕ). bytesOf m ++ xs) (sym (u .many)) (u .bytes)));
+        runs = h .runs;
+        next = h .next;
+        front = head-taken bs h (top .1 .0);
+        rest = taken n L (h .roots) positive bs (h .runs) (h .next) (suc L) (place 0 0) 0 (grid .0) (omega arith) (power-pos n L positive) (grid .1 .0);
       })
+
+  pub valid-grid : (bs : List ℕ) (g : Grid) → gridAt n L bs ≡ accepted g → ValidGrid n L g
+  valid-grid bs g e =
+      let t = file-taken bs g e in
+      record { some-root = t .front .some-root; few-roots = t .front .few-roots; few = omega (arith, t .rest .few); valid = t .rest .covers }
+
+  pub accepted-file : (bs : List ℕ) (g : Grid) → Bytes bs → gridAt n L bs ≡ accepted g → FileOf n L bs g
+  accepted-file bs g all e =
+      let t = file-taken bs g e in
+      let h = t .front in
+      record {
+        grid = valid-grid bs g e;
+        runs = runsOf (g .leaves);
+        are = runs-are (g .leaves);
+        file = opened bs (h .tagged)
+            ∙ ap (λ (xs : List ℕ). tag ++ xs) (number-bytes bs all 4 (read (g .roots) (h .after-roots)) (h .roots)
+            ∙ ap (λ (xs : List ℕ). bytesOf (g .roots) ++ xs) (number-bytes bs all (h .after-roots) (read (t .runs) (t .next)) (h .runs)
+            ∙ ap₂ (λ (m : ℕ) (xs : List ℕ). bytesOf m ++ xs) (sym (t .rest .many)) (t .rest .bytes all)));
+      }

@@ -11,9 +11,8 @@ use lib.Dec.{ltb, eqb}
 use borrow.Author.Tests.{ltb-true, eqb-true, eq-eqb, ne-eqb}
 use Rattle.leaves.specs.Leaves.{Leaf, Place, place, span, past, startOf, endOf, Covers}
 use Rattle.leaves.proofs.Span.{power-pos, fill, past-le, end-last, end-within}
-use Rattle.gridfile.specs.File.{Run, run, joinRun, runsOf}
+use Rattle.gridfile.specs.File.{Run, run, joinRun, runsOf, Differs}
 use Rattle.gridfile.specs.Reading.{next, fits, leavesOf, after}
-use Rattle.gridfile.proofs.Runs.{Differs}
 
 module _ (n L K : ℕ) (positive : 0 < n) where
   -- a cell of a root

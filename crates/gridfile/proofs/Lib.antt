@@ -11,9 +11,12 @@ pub mod Counting
 pub mod Laying
 pub mod Underway
 pub mod Loading
+pub mod Standing
+pub mod AreRuns
 pub mod Taking
 pub mod Accepting
 pub mod OneFile
+pub mod InMemory
 pub mod Ending
 pub mod Writing
 pub mod Putting

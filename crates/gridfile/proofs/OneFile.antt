@@ -12,50 +12,69 @@ use Rattle.leaves.specs.Leaves.{Leaf, leaves, rootsOf, levelsOf, positionsOf, V
 use Rattle.leaves.specs.Laws.{ValidList}
 use Rattle.leaves.proofs.Listed.{leaves-length, columns-sound, listed-passed, listed-accepted, valid-passes}
 use Rattle.leaves.proofs.Entries.{some-leaf, leaves-of-columns}
-use Rattle.gridfile.specs.File.{fileOf}
+use Rattle.gridfile.specs.File.{runsFile, fileOf}
 use Rattle.gridfile.specs.Calls.{sized, writing}
 use Rattle.gridfile.specs.Numbers.{highest}
 use Rattle.gridfile.specs.Reading.{and-then, Grid, gridAt, fitted, reading}
-use Rattle.gridfile.specs.Laws.{Bytes, FileOf, OneFile, RoundTrip}
+use Rattle.gridfile.specs.Laws.{Bytes, ValidGrid, FileOf, OneFile, RoundTrip}
 use Rattle.gridfile.proofs.ReadBack.{read-back}
 use Rattle.gridfile.proofs.Taking.{accepted-same, then-accepted}
-use Rattle.gridfile.proofs.Accepting.{accepted-file}
+use Rattle.gridfile.proofs.Accepting.{valid-grid, accepted-file}
+use Rattle.gridfile.proofs.Standing.{grid-stands}
+use Rattle.gridfile.proofs.AreRuns.{runs-are, runs-only}
 
 module _ (n L : ℕ) (positive : 0 < n) (low : L ≤ highest) where
+  -- a file is that of its list, whatever runs it names
+  file-is : (bs : List ℕ) (g : Grid) → FileOf n L bs g → bs ≡ fileOf (g .roots) (g .leaves)
+  file-is bs g f = f .file ∙ ap (runsFile (g .roots)) (runs-only (f .runs) (g .leaves) (f .are))
+
   reads : (bs : List ℕ) (g : Grid) → FileOf n L bs g → gridAt n L bs ≡ accepted g
-  reads bs g f = ap (gridAt n L) (f .file) ∙ read-back n L positive low (g .roots) (g .leaves) (f .some-root) (f .few-roots) (f .few) (f .valid)
+  reads bs g f =
+      let v = f .grid in
+      ap (gridAt n L) (file-is bs g f) ∙ read-back n L positive low (g .roots) (g .leaves) (v .some-root) (v .few-roots) (v .few) (v .valid)
 
   pub one-file : OneFile n L
   one-file =
       record {
+        runs-are = runs-are;
+        runs-only = runs-only;
         read-back = reads;
-        written-back = accepted-file n L positive low;
+        valid-read = valid-grid n L positive;
+        written-back = accepted-file n L positive;
         others-refused = λ bs all none. by bs all none (gridAt n L bs) refl;
+        stands = λ bs more number at e other there. grid-stands bs more n L number at other there e;
         one-list = λ bs g g′ f f′. accepted-same g g′ (sym (reads bs g f) ∙ reads bs g′ f′);
-        one-file = λ bs bs′ g f f′. f .file ∙ sym (f′ .file);
+        one-file = λ bs bs′ g f f′. file-is bs g f ∙ sym (file-is bs′ g f′);
       }
     where
       by : (bs : List ℕ) → Bytes bs → ((g : Grid) → FileOf n L bs g → ⊥) → (o : Outcome Grid) → gridAt n L bs ≡ o
           → (number : ℕ) × ((at : ℕ) × (gridAt n L bs ≡ refused number at))
-      by bs all none (accepted g) e = absurd (none g (accepted-file n L positive low bs g all e))
+      by bs all none (accepted g) e = absurd (none g (accepted-file n L positive bs g all e))
       by bs all none (refused number at) e = (number, (at, e))
 
   -- ---- the calls
   -- a list that is written
-  saves : (K : ℕ) (rs ls ps : List ℕ) (room needed : ℕ) → writing n L K rs ls ps room ≡ accepted needed
-      → gridAt n L (fileOf K (leaves rs ls ps)) ≡ accepted (record { roots = K; leaves = leaves rs ls ps })
-  saves K rs ls ps room needed h =
+  saves : (K : ℕ) (rs ls ps : List ℕ) (room needed entries : ℕ) → writing n L K rs ls ps room ≡ accepted needed
+      → reading n L (fileOf K (leaves rs ls ps)) true entries ≡ fitted entries (record { roots = K; leaves = leaves rs ls ps })
+  saves K rs ls ps room needed entries h =
       let inside = listed-accepted n L K true true rs ls ps (sized (length (fileOf K (leaves rs ls ps))) room) needed h in
       let sound = columns-sound n L K true true rs ls ps (inside .0) in
-      read-back n L positive low K (leaves rs ls ps) (sound .some-root) (sound .few-roots) (omega (arith, sound .few, leaves-length rs ls ps)) (sound .valid)
+      ap (λ (o : Outcome Grid). and-then o (fitted entries))
+      (read-back n L positive low K (leaves rs ls ps) (sound .some-root) (sound .few-roots) (omega (arith, sound .few, leaves-length rs ls ps)) (sound .valid))
 
   -- a list that was read
-  pub loads : (bs : List ℕ) (equal : Bool) (room : ℕ) (g : Grid) → Bytes bs → reading n L bs equal room ≡ accepted g → FileOf n L bs g
-  loads bs equal room g all h =
+  pub read-grid : (bs : List ℕ) (equal : Bool) (room : ℕ) (g : Grid) → reading n L bs equal room ≡ accepted g → gridAt n L bs ≡ accepted g
+  read-grid bs equal room g h =
       let a = accepted-of (not equal) 11 0 (and-then (gridAt n L bs) (fitted room)) g h in
       let b = then-accepted (gridAt n L bs) (fitted room) g (a .1) in
       let d = accepted-of (ltb room (length (b .0 .leaves))) 14 (length (b .0 .leaves)) (accepted (b .0)) g (b .1 .1) in
-      accepted-file n L positive low bs g all (b .1 .0 ∙ d .1)
+      b .1 .0 ∙ d .1
+
+  pub loads-valid : (bs : List ℕ) (equal : Bool) (room : ℕ) (g : Grid) → reading n L bs equal room ≡ accepted g → ValidGrid n L g
+  loads-valid bs equal room g h = valid-grid n L positive bs g (read-grid bs equal room g h)
+
+  loads : (bs : List ℕ) (equal : Bool) (room : ℕ) (g : Grid) → Bytes bs → reading n L bs equal room ≡ accepted g → FileOf n L bs g
+  loads bs equal room g all h = accepted-file n L positive bs g all (read-grid bs equal room g h)
 
   module _ (g : Grid) where
     abbrev rs : List ℕ
@@ -71,19 +90,20 @@ module _ (n L : ℕ) (positive : 0 < n) (low : L ≤ highest) where
     valid-columns : (bs : List ℕ) → FileOf n L bs g → ValidList n L (g .roots) rs ls ps
     valid-columns bs f =
         let long = length-map (g .leaves) (λ (v : Leaf). v .root) in
-        let some = some-leaf n L (g .roots) (g .leaves) (f .some-root) (f .valid) in
+        let v = f .grid in
+        let some = some-leaf n L (g .roots) (g .leaves) (v .some-root) (v .valid) in
         record {
-          some-root = f .some-root;
-          few-roots = f .few-roots;
+          some-root = v .some-root;
+          few-roots = v .few-roots;
           levels-long = long ∙ sym (length-map (g .leaves) (λ (v : Leaf). v .level));
           positions-long = long ∙ sym (length-map (g .leaves) (λ (v : Leaf). v .position));
           some = omega (arith, long, some);
-          few = omega (arith, long, f .few);
-          valid = subst⁻¹ (Valid n L (g .roots)) (leaves-of-columns (g .leaves)) (f .valid);
+          few = omega (arith, long, v .few);
+          valid = subst⁻¹ (Valid n L (g .roots)) (leaves-of-columns (g .leaves)) (v .valid);
         }
 
     same-file : (bs : List ℕ) → FileOf n L bs g → fileOf (g .roots) (leaves rs ls ps) ≡ bs
-    same-file bs f = ap (fileOf (g .roots)) (leaves-of-columns (g .leaves)) ∙ sym (f .file)
+    same-file bs f = ap (fileOf (g .roots)) (leaves-of-columns (g .leaves)) ∙ sym (file-is bs g f)
 
     rewrites : (bs : List ℕ) (bytes : ℕ) → FileOf n L bs g → writing n L (g .roots) rs ls ps bytes ≡ sized (length bs) bytes
     rewrites bs bytes f =
@@ -94,7 +114,7 @@ module _ (n L : ℕ) (positive : 0 < n) (low : L ≤ highest) where
   round-trip =
       record {
         saved = saves;
-        loaded = λ bs equal room g bytes all h.
+        loaded = λ bs equal room g space all h.
             let f = loads bs equal room g all h in
-            (rewrites g bs bytes f, same-file g bs f);
+            (rewrites g bs space f, same-file g bs f);
       }

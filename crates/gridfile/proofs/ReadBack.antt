@@ -11,10 +11,10 @@ use Rattle.leaves.specs.Leaves.{Leaf, Place, place, Valid}
 use Rattle.leaves.proofs.Entries.{some-leaf}
 use Rattle.leaves.specs.Calls.{limit}
 use Rattle.gridfile.specs.Numbers.{highest, bytesOf, Read, read, numberAt}
-use Rattle.gridfile.specs.File.{Run, runsOf, runBytes, fileOf, tag}
+use Rattle.gridfile.specs.File.{Run, runsOf, runBytes, fileOf, tag, Differs}
 use Rattle.gridfile.specs.Reading.{and-then, Head, head, afterRuns, afterRoots, headAt, headed, fits, leavesOf, after, RunRead, runRead, afterCount, afterLevel, runAt, runsAt, gridAt}
 use Rattle.gridfile.proofs.Coded.{codec}
-use Rattle.gridfile.proofs.Runs.{Reads, Differs, reads-of, leaves-count, runs-few, runs-some}
+use Rattle.gridfile.proofs.Runs.{Reads, reads-of, leaves-count, runs-few, runs-some}
 
 module _ (n L K : ℕ) (bs : List ℕ) where
   -- ---- one run

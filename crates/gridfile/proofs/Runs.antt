@@ -13,13 +13,8 @@ use lib.ListN.{length}
 use borrow.Author.Tests.{lt-ltb, eq-eqb, ne-eqb}
 use Rattle.leaves.specs.Leaves.{Leaf, leaf, Place, place, span, startOf, endOf, Covers}
 use Rattle.leaves.proofs.Span.{power-pos}
-use Rattle.gridfile.specs.File.{Run, run, joinRun, runsOf}
+use Rattle.gridfile.specs.File.{Run, run, joinRun, runsOf, Differs}
 use Rattle.gridfile.specs.Reading.{next, fits, leavesOf, after}
-
--- the first of the runs is of another level than l
-abbrev pub Differs : ℕ → List Run → Type 0
-Differs l [] = Unit {0}
-Differs l (r ∷ rs) = l ≡ r .level → ⊥
 
 module _ (n L K : ℕ) (positive : 0 < n) where
   -- the runs rs are read from c on as the leaves vs, to the end of the last root

@@ -14,10 +14,10 @@ use borrow.Author.Tests.{eq-eqb}
 use Rattle.paper.specs.Outcome.{rows}
 use Rattle.leaves.specs.Leaves.{leafAt, leaves}
 use Rattle.gridfile.specs.Numbers.{bytesOf}
-use Rattle.gridfile.specs.File.{Run, run, joinRun, runsOf, runBytes, tag, fileOf}
+use Rattle.gridfile.specs.File.{Run, run, joinRun, runsOf, runBytes, tag, fileOf, Differs}
 use Rattle.gridfile.specs.Writing.{levelRuns, levelFile, RunEnd, Counted}
 use Rattle.gridfile.proofs.Cases.{bytes-one, bytes-two, bytes-three, by-count}
-use Rattle.gridfile.proofs.Runs.{Differs, join-few}
+use Rattle.gridfile.proofs.Runs.{join-few}
 use Rattle.gridfile.proofs.Fitting.{first-run}
 
 -- ---- the runs from the leaf i on, where its run ends before the leaf j

@@ -3,8 +3,10 @@
 --   "List calls: 17, 11, then each leaf in turn 1, 5, 12 ..; then .. 14"; 14 no room, place = bytes needed
 --   Writing a file is a list call; reading one is `Reading.antt`.
 --
+--   sized          "14 no room" for so many bytes
 --   writing        the call: how many bytes the file has. room is the length of the lent bytes
 --   FileWritten    the contract of writing: its answer, and the file at the front of the lent bytes, or what they held
+--   sizeOf g       the number of roots and of leaves of a grid
 --   leavesIn o     the leaves of the grid that was read; none where it was refused
 --   Loaded o       the answer of reading with the outcome o, and the leaves at the front of the lent columns, or what they held
 --   FileRead       the contract of reading

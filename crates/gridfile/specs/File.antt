@@ -6,15 +6,21 @@
 --   Run              a level and a leaf count
 --   runsOf vs        the runs of a list: each as long as the level stays
 --   runBytes rs      their pairs, in order
+--   runsFile K rs    the tag, K, R, then the pairs
 --   fileOf K vs      the file of a list of K roots
+--   levelsIn rs      the levels of the leaves that the runs stand for
+--   Differs l rs     the first of the runs, if any, is of another level than l
+--   Apart rs         no run of 0, and "Neighbouring runs differ in level"
+--   AreRuns rs vs    the runs rs are those of the list vs: they stand for its leaves' levels, and are apart
 --
 -- Assumes nothing.
+use mathlib.Core.Path.{_≡_}
 use mathlib.Core.Bool.{cond}
 use mathlib.Core.List.{List, [], _∷_, _++_}
-use Prim.Native.Nat.{ℕ, _+_}
+use Prim.Native.Nat.{ℕ, _+_, _<_}
 use lib.Dec.{eqb}
-use lib.ListN.{length}
-use Rattle.leaves.specs.Leaves.{Leaf}
+use lib.ListN.{length, replicate}
+use Rattle.leaves.specs.Leaves.{Leaf, levelsOf}
 use Rattle.gridfile.specs.Numbers.{bytesOf}
 
 abbrev pub tag : List ℕ
@@ -40,5 +46,25 @@ unfoldable pub runBytes : List Run → List ℕ
 runBytes [] = []
 runBytes (r ∷ rs) = bytesOf (r .level) ++ (bytesOf (r .count) ++ runBytes rs)
 
+abbrev pub runsFile : ℕ → List Run → List ℕ
+runsFile K rs = tag ++ (bytesOf K ++ (bytesOf (length rs) ++ runBytes rs))
+
 abbrev pub fileOf : ℕ → List Leaf → List ℕ
-fileOf K vs = tag ++ (bytesOf K ++ (bytesOf (length (runsOf vs)) ++ runBytes (runsOf vs)))
+fileOf K vs = runsFile K (runsOf vs)
+
+-- ---- what the runs of a list are, however they are found
+unfoldable pub levelsIn : List Run → List ℕ
+levelsIn [] = []
+levelsIn (r ∷ rs) = replicate (r .count) (r .level) ++ levelsIn rs
+
+abbrev pub Differs : ℕ → List Run → Type 0
+Differs l [] = Unit {0}
+Differs l (r ∷ rs) = l ≡ r .level → ⊥
+
+unfoldable pub Apart : List Run → Type 0
+Apart [] = Unit {0}
+Apart (r ∷ rs) = (0 < r .count) × (Differs (r .level) rs × Apart rs)
+
+pub record AreRuns (rs : List Run) (vs : List Leaf) : Type 0 where
+  pub levels : levelsOf vs ≡ levelsIn rs
+  pub apart : Apart rs

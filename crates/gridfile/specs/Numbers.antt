@@ -1,7 +1,7 @@
 -- Document 01, "Grid file": "Numbers are groups of seven bits, lowest group first, top bit set on all but the last byte, shortest form, three
 -- bytes at most." Definitions only.
 --
---   highest         the numbers of three bytes at most are below 2^21
+--   highest         2^21 - 1, the largest number of three bytes
 --   bytesOf v       the bytes of the number v
 --   Read            a number that was read: its value, and the offset of what follows it
 --   numberAt bs i   the number whose first byte is at offset i of the bytes bs. 19 "file ends inside or before a number"; 20 "number not

@@ -6,8 +6,10 @@
 --   17 K outside 1 to 4,096; 18 first four bytes missing or different; 21 R outside 1 to 1,048,576, run of 0, level as in the run before
 --
 --   and-then o f      what follows an accepted outcome
+--   Grid              K roots and the leaves
+--   opens bs          the first four bytes are the tag
 --   Head, headAt      what stands in front of the runs: K, R, and the offset of the first run; afterRoots, afterRuns: the tests of K and of R
---   next K c l        the leaf of level l that starts at c
+--   next c l          the leaf of level l that starts at c
 --   fits K c l k      k leaves of level l can start from c on, each where the one before it ended, in the K roots
 --   leavesOf c l k    those leaves
 --   after c l k       where they end
@@ -17,7 +19,7 @@
 --   runsAt            the leaves of the R runs from offset i on
 --   headed, gridAt    K and the leaves of a file whose front is known, and of a whole file
 --   fitted            "last 14"
---   reading           the call: the roots and the number of leaves. equal, room: of the lent columns
+--   reading           the call: the grid that is read. equal, room: of the lent columns
 --
 -- Assumes nothing.
 use mathlib.Core.Bool.{Bool, true, not, _&&_, _||_}
@@ -29,6 +31,7 @@ use Rattle.paper.specs.Outcome.{Outcome, accepted, refused, refuse-when, refuse
 use Rattle.leaves.specs.Leaves.{Leaf, leaf, Place, place, span, endOf}
 use Rattle.leaves.specs.Calls.{limit, outOfRange}
 use Rattle.gridfile.specs.Numbers.{Read, numberAt, byteAt}
+use Rattle.gridfile.specs.File.{tag}
 
 abbrev pub and-then : {A B : Type 0} → Outcome A → (A → Outcome B) → Outcome B
 and-then (accepted a) f = f a
@@ -41,7 +44,9 @@ pub record Grid : Type 0 where
 abbrev pub opens : List ℕ → Bool
 opens bs =
     not (ltb (length bs) 4)
-    && (eqb (byteAt bs 0) 80 && (eqb (byteAt bs 1) 71 && (eqb (byteAt bs 2) 82 && eqb (byteAt bs 3) 49)))
+    && (eqb (byteAt bs 0) (byteAt tag 0)
+    && (eqb (byteAt bs 1) (byteAt tag 1)
+    && (eqb (byteAt bs 2) (byteAt tag 2) && eqb (byteAt bs 3) (byteAt tag 3))))
 
 pub record Head : Type 0 where
   pub roots : ℕ

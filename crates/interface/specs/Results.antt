@@ -6,8 +6,9 @@
 --   passResult    of a call with no value: the word alone
 --   lineResult, triangleResult, prismResult, numberResult, truthResult, orderResult, pointResult
 --                  what the call with the outcome o returns: on a refusal every field of the value is 0
---   UniformResult, AdaptResult, SharesResult
---                  what the call returns, and what its lent columns hold afterwards
+--   gridResult     the same for a grid that was read: its roots and the number of its leaves
+--   UniformResult, AdaptResult, SharesResult, WriteResult, ReadResult
+--                  what the call returns, and what its lent columns or bytes hold afterwards
 --   signOf o       less is -1, same 0, greater 1
 --
 -- Assumes nothing.
@@ -18,7 +19,7 @@ use Prim.Native.Nat.{ℕ, _+_, _*_, _%_, _^_}
 use lib.IntN.{ℤ, pos, negsuc}
 use lib.ListN.{length}
 use lib.Ieee.{fin}
-use Rattle.paper.specs.Outcome.{Outcome, accepted, refused, Order, less, same, greater}
+use Rattle.paper.specs.Outcome.{Outcome, accepted, refused, mapped, Order, less, same, greater}
 use Rattle.line.specs.declared.Line.{Line}
 use Rattle.triangle.specs.declared.Triangle.{Triangle}
 use Rattle.prism.specs.declared.Prism.{Prism}
@@ -30,12 +31,17 @@ use Rattle.adaption.specs.Calls.{adaption}
 use Rattle.shares.specs.Shares.{boundaries}
 use Rattle.shares.specs.Calls.{shares}
 use Rattle.leaves.specs.Leaves as leaves
+use Rattle.gridfile.specs.File.{fileOf}
+use Rattle.gridfile.specs.Reading.{reading}
+use Rattle.gridfile.specs.Readings.{Size, size}
+use Rattle.gridfile.specs.Calls.{writing, sizeOf, leavesIn}
 use Rattle.interface.specs.declared.LineResult.{LineResult}
 use Rattle.interface.specs.declared.TriangleResult.{TriangleResult}
 use Rattle.interface.specs.declared.PrismResult.{PrismResult}
 use Rattle.interface.specs.declared.NumberResult.{NumberResult}
 use Rattle.interface.specs.declared.OrderResult.{OrderResult}
 use Rattle.interface.specs.declared.PointResult.{PointResult}
+use Rattle.interface.specs.declared.GridResult.{GridResult}
 
 abbrev pub word : {A : Type 0} → Outcome A → ℕ
 word (accepted a) = 0
@@ -75,6 +81,9 @@ orderResult o = record { refusal = word o; value = signOf (valueOr same o) }
 unfoldable pub passResult : Outcome (Unit {0}) → ℕ
 passResult o = word o
 
+unfoldable pub gridResult : Outcome Size → GridResult
+gridResult o = record { refusal = word o; roots = valueOr (size 0 0) o .roots; leaves = valueOr (size 0 0) o .leaves }
+
 -- a coordinate 0 is +0
 unfoldable pub pointResult : Outcome Point → PointResult
 pointResult o =
@@ -94,3 +103,12 @@ pub record AdaptResult (k : ℕ) (r : NumberResult) (roots levels positions mark
 pub record SharesResult (k p r : ℕ) (roots levels positions weights column column′ : List ℕ) : Type 0 where
   pub result : r ≡ passResult (shares 8 21 k p roots levels positions weights (length column))
   pub written : column′ ≡ lent (shares 8 21 k p roots levels positions weights (length column)) (boundaries p weights) column
+
+pub record WriteResult (k : ℕ) (r : NumberResult) (roots levels positions bytes bytes′ : List ℕ) : Type 0 where
+  pub result : r ≡ numberResult (writing 8 21 k roots levels positions (length bytes))
+  pub written : bytes′ ≡ lent (writing 8 21 k roots levels positions (length bytes)) (fileOf k (leaves.leaves roots levels positions)) bytes
+
+pub record ReadResult (r : GridResult) (bytes roots levels positions roots′ levels′ positions′ : List ℕ) : Type 0 where
+  pub result : r ≡ gridResult (mapped sizeOf (reading 8 21 bytes (equalColumns roots levels positions) (length roots)))
+  pub columns : Columns (mapped sizeOf (reading 8 21 bytes (equalColumns roots levels positions) (length roots)))
+      (leavesIn (reading 8 21 bytes (equalColumns roots levels positions) (length roots))) roots levels positions roots′ levels′ positions′

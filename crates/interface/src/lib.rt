@@ -1,5 +1,6 @@
 // The C interface: one flat function for each public call. A result is the refusal's word and the value beside it;
 // `specs/Results.antt` says how, and each contract is that of the call.
+mod file_calls;
 mod line_calls;
 mod list_calls;
 mod point_calls;
@@ -40,6 +41,14 @@ pub struct NumberResult {
 pub struct OrderResult {
     pub refusal: u64,
     pub value: i32,
+}
+
+// A grid that was read: its roots and the number of its leaves.
+#[repr(C)]
+pub struct GridResult {
+    pub refusal: u64,
+    pub roots: u64,
+    pub leaves: u64,
 }
 
 #[repr(C)]

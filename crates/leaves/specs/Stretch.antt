@@ -1,8 +1,8 @@
--- Leaves of one root and level, written into three columns: what every call that makes a list writes with. Definitions only.
+-- Leaves of one root and level, written into three columns: what adaption and the file's reader write with. Definitions only.
 --
 --   stretch r l p k   k leaves of root r and level l, from position p on
 --   laid              how many leaves `lay` writes: all of them, or none where they don't fit the columns of lengths a, b, c from entry i
---                     on, or a position would not fit 64 bits
+--                     on, or the position after the last would not fit 64 bits
 --   Ran               what stands in three columns after the leaves vs were written from entry i on
 --   Passed            after they were written at the front
 --

@@ -48,11 +48,15 @@ use Rattle.paper.specs.declared.NumberAnswer.the-variants as number-answer
 use Rattle.paper.specs.declared.TruthAnswer.the-variants as truth-answer
 use Rattle.paper.specs.declared.OrderAnswer.the-variants as order-answer
 use Rattle.paper.specs.declared.PassAnswer.the-variants as pass-answer
-use Rattle.gridfile.specs.Readings.{Size, gridOf}
+use Rattle.gridfile.specs.Numbers.{Read}
+use Rattle.gridfile.specs.Readings.{Size, readOf, gridOf}
+use Rattle.gridfile.specs.declared.NumberRead.{NumberRead}
+use Rattle.gridfile.specs.declared.NumberRead.the-variants as number-read
 use Rattle.gridfile.specs.declared.GridAnswer.{GridAnswer}
 use Rattle.gridfile.specs.declared.GridAnswer.the-variants as grid-answer
 use Rattle.gridfile.proofs.Coded.{codec}
 use Rattle.gridfile.proofs.OneFile.{one-file, round-trip}
+use Rattle.gridfile.proofs.InMemory.{in-memory}
 use Rattle.corners.specs.CornerPoints.{pointOf}
 use Rattle.corners.specs.declared.PointAnswer.{PointAnswer}
 use Rattle.corners.specs.declared.PointAnswer.the-variants as point-answer
@@ -139,6 +143,16 @@ grid-answers = determined-by gridOf (answer loaded grid-answer.Refused) undo
     undo (grid-answer.Is roots leaves) = refl
     undo (grid-answer.Refused n p) = refl
 
+abbrev value-read : Read → NumberRead
+value-read r = number-read.Is (r .value) (r .next)
+
+numbers-read : Determined readOf
+numbers-read = determined-by readOf (answer value-read number-read.Refused) undo
+  where
+    undo : (r : NumberRead) → answer value-read number-read.Refused (readOf r) ≡ r
+    undo (number-read.Is value next) = refl
+    undo (number-read.Refused n p) = refl
+
 point-answers : Determined pointOf
 point-answers = determined-by pointOf (answer point-answer.Is point-answer.Refused) undo
   where
@@ -168,7 +182,7 @@ of-elements =
       of-prisms = elements prism (prismIndex 21) (prism-points.facePoints 21) prism-points.faceAcross (prism-laws.lawful 21) (prism-ranked 21) (prism-faces 21);
       children-are-bey's = bey 21;
       faces-by-definition-27 = definition-27 21;
-      determined = record { line-elements = line-elements; triangle-elements = triangle-elements; prism-elements = prism-elements; numbers = number-answers; truths = truth-answers; orders = order-answers; passes = pass-answers; grids = grid-answers; points = point-answers };
+      determined = record { line-elements = line-elements; triangle-elements = triangle-elements; prism-elements = prism-elements; numbers = number-answers; truths = truth-answers; orders = order-answers; passes = pass-answers; grids = grid-answers; numbers-read = numbers-read; points = point-answers };
     }
 
 pub of-lists : OfLists
@@ -183,7 +197,7 @@ of-lists =
     }
 
 pub of-files : OfFiles
-of-files = record { numbers = codec; one-file = one-file 8 21 (omega arith) (omega arith); round-trip = round-trip 8 21 (omega arith) (omega arith) }
+of-files = record { numbers = codec; one-file = one-file 8 21 (omega arith) (omega arith); round-trip = round-trip 8 21 (omega arith) (omega arith); in-memory = in-memory }
 
 pub of-points : OfPoints
 of-points = record { promised = promised }

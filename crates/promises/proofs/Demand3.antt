@@ -22,7 +22,7 @@ use Rattle.shares.specs.Laws.{Fair, Weighty}
 use Rattle.prism.proofs.Laws as prism-laws
 use Rattle.adaption.proofs.Promised as adaption-laws
 use Rattle.shares.proofs.Promised as shares-laws
-use Rattle.gridfile.proofs.OneFile.{loads}
+use Rattle.gridfile.proofs.OneFile.{loads-valid}
 use Rattle.promises.specs.Demand3.{Divided, OfGrids}
 
 of-list : (K P : ℕ) (vs : List Leaf) (ws : List ℕ) → Valid 8 21 K vs → 0 < length vs → length ws ≡ length vs → Weighty ws → 0 < P → Divided K P vs ws
@@ -81,9 +81,9 @@ pub of-grids : OfGrids
 of-grids =
     record {
       of-valid = λ K P vs ws some valid. of-list K P vs ws valid (some-leaf 8 21 K vs some valid);
-      of-loaded = λ bytes equal room g P ws all read.
-          let file = loads 8 21 (omega arith) (omega arith) bytes equal room g all read in
-          of-list (g .roots) P (g .leaves) ws (file .valid) (some-leaf 8 21 (g .roots) (g .leaves) (file .some-root) (file .valid));
+      of-loaded = λ bytes equal room g P ws read.
+          let grid = loads-valid 8 21 (omega arith) (omega arith) bytes equal room g read in
+          of-list (g .roots) P (g .leaves) ws (grid .valid) (some-leaf 8 21 (g .roots) (g .leaves) (grid .some-root) (grid .valid));
       of-reached = λ K s P vs ws reached.
           let valid = adaption-laws.promised 8 21 (omega arith) .reached K s vs reached in
           of-list K P vs ws valid (some-leaf 8 21 K vs (reached-root K s vs reached) valid);

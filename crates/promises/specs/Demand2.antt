@@ -1,10 +1,10 @@
--- The order's second demand, for elements and leaf lists: "Positions are those of the prism index .. An element's position is its rank among all elements
+-- The order's second demand, for elements, leaf lists and grid files: "Positions are those of the prism index .. An element's position is its rank among all elements
 -- of its level in that order, and each position below eight to the power of the level gives back its element." Definitions only.
 --
 --   Elements      what is promised of one shape, with its index and its faces
 --   Determined f  two answers with the same reading are the same answer
 --   OfElements    demand 2, of the elements of all three shapes
---   Answers       of every enum that a call answers
+--   Answers       of every enum that a public call answers, and of a file's number
 --   OfLists       demand 2, of leaf lists: the list check is exact, each smallest cell lies in one leaf, a leaf's relatives are the
 --                 prism's, adaption is the paper's one pass, boundaries are the paper's, balanced is the paper's
 --   OfFiles       demand 2, of grid files: "a list has one file and a file one list", and writing and reading undo each other
@@ -22,9 +22,9 @@ use Rattle.index.specs.Index.{lineIndex, triangleIndex, prismIndex}
 use Rattle.index.specs.Rank.{Ranked}
 use Rattle.leaves.specs.Cells.{Tied}
 use Rattle.balance.specs.Balance.{Exact}
-use Rattle.gridfile.specs.Readings.{gridOf}
+use Rattle.gridfile.specs.Readings.{readOf, gridOf}
+use Rattle.gridfile.specs.Laws.{Codec, OneFile, RoundTrip, InMemory}
 use Rattle.corners.specs.CornerPoints.{pointOf}
-use Rattle.gridfile.specs.Laws.{Codec, OneFile, RoundTrip}
 use Rattle.leaves.specs.Laws as leaves
 use Rattle.adaption.specs.Laws as adaption
 use Rattle.shares.specs.Laws as shares
@@ -57,6 +57,7 @@ pub record Answers : Type 0 where
   pub orders : Determined orderOf
   pub passes : Determined passOf
   pub grids : Determined gridOf
+  pub numbers-read : Determined readOf
   pub points : Determined pointOf
 
 pub record OfElements : Type 0 where
@@ -79,6 +80,7 @@ pub record OfFiles : Type 0 where
   pub numbers : Codec
   pub one-file : OneFile 8 21
   pub round-trip : RoundTrip 8 21
+  pub in-memory : InMemory
 
 pub record OfPoints : Type 0 where
   pub promised : corners.Promised

@@ -25,7 +25,6 @@ use Rattle.shares.specs.Shares.{total, boundary, weight, heaviest}
 use Rattle.shares.specs.Calls.{shares}
 use Rattle.shares.specs.Laws.{OneShare, Weighty}
 use Rattle.gridfile.specs.Reading.{Grid, reading}
-use Rattle.gridfile.specs.Laws.{Bytes}
 
 pub record Owner (P : ℕ) (vs : List Leaf) (ws : List ℕ) (r : ℕ) (cell : Prism) : Type 0 where
   pub listed : OneLeaf prism vs r cell
@@ -42,7 +41,7 @@ pub record Divided (K P : ℕ) (vs : List Leaf) (ws : List ℕ) : Type 0 where
 pub record OfGrids : Type 0 where
   pub of-valid : (K P : ℕ) (vs : List Leaf) (ws : List ℕ) → 0 < K → Valid 8 21 K vs → length ws ≡ length vs → Weighty ws → 0 < P
       → Divided K P vs ws
-  pub of-loaded : (bytes : List ℕ) (equal : Bool) (room : ℕ) (g : Grid) (P : ℕ) (ws : List ℕ) → Bytes bytes → reading 8 21 bytes equal room ≡ accepted g
+  pub of-loaded : (bytes : List ℕ) (equal : Bool) (room : ℕ) (g : Grid) (P : ℕ) (ws : List ℕ) → reading 8 21 bytes equal room ≡ accepted g
       → length ws ≡ length (g .leaves) → Weighty ws → 0 < P → Divided (g .roots) P (g .leaves) ws
   pub of-reached : (K s P : ℕ) (vs : List Leaf) (ws : List ℕ) → Reached 8 21 K s vs → length ws ≡ length vs → Weighty ws → 0 < P
       → Divided K P vs ws

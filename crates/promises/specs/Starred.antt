@@ -11,14 +11,16 @@ use mathlib.Core.Bool.{true}
 use mathlib.Core.List.{List, [], _∷_, _++_}
 use Prim.Native.Nat.{ℕ, _+_}
 use lib.ListN.{replicate}
-use Rattle.paper.specs.Outcome.{Outcome, accepted, refused, passed, rows}
+use Rattle.paper.specs.Outcome.{Outcome, accepted, refused, passed}
 use Rattle.prism.specs.declared.Prism.{Prism}
 use Rattle.prism.specs.Elements.{prism}
-use Rattle.leaves.specs.Leaves.{Leaf, leaf, rootsOf, levelsOf, positionsOf, uniform}
+use Rattle.leaves.specs.Leaves.{Leaf, rootsOf, levelsOf, positionsOf, uniform}
 use Rattle.adaption.specs.Adaption.{adapted}
 use Rattle.adaption.specs.Calls.{adaption}
 use Rattle.shares.specs.Calls.{shares}
+use Rattle.leaves.specs.Stretch.{stretch}
 use Rattle.gridfile.specs.File.{fileOf}
+use Rattle.gridfile.specs.Calls.{writing}
 use Rattle.gridfile.specs.Reading.{Grid, reading}
 use Rattle.leaves.specs.Calls as lists
 use Rattle.shares.specs.Shares as parts
@@ -57,14 +59,11 @@ abbrev is : ℕ → ℕ → ℕ → ℕ → ℕ → Prism
 is l x y z t = record { x = x; y = y; z = z; level = l; kind = t }
 
 -- the leaves of root 0 that a file's runs stand for: level 1 from position 0 to 7; and with leaf 2 refined
-abbrev run : ℕ → ℕ → ℕ → List Leaf
-run l p k = rows (λ t. leaf 0 l (p + t)) 0 k
-
 abbrev level1 : List Leaf
-level1 = run 1 0 8
+level1 = stretch 0 1 0 8
 
 abbrev refined2 : List Leaf
-refined2 = run 1 0 2 ++ run 2 16 8 ++ run 1 3 5
+refined2 = stretch 0 1 0 2 ++ stretch 0 2 16 8 ++ stretch 0 1 3 5
 
 -- the marks: leaf 2 alone refined; all fifteen to merge
 abbrev refine2 : List ℕ
@@ -115,7 +114,9 @@ starred =
     ∷ list (adapted 8 level1 refine2) refined2
     ∷ number (adapting refined2 merge15 8) (accepted 8)
     ∷ list (adapted 8 refined2 merge15) level1
+    ∷ number (writing 8 21 1 (rootsOf level1) (levelsOf level1) (positionsOf level1) 8) (accepted 8)
     ∷ file (fileOf 1 (uniform 8 21 1 1)) first
+    ∷ number (writing 8 21 1 (rootsOf refined2) (levelsOf refined2) (positionsOf refined2) 12) (accepted 12)
     ∷ file (fileOf 1 (adapted 8 level1 refine2)) second
     ∷ file (fileOf 1 (adapted 8 refined2 merge15)) first
     ∷ grid (reading 8 21 first true 8) (accepted (record { roots = 1; leaves = level1 }))
