@@ -1,6 +1,6 @@
 //! The C interface, as `gwerniloc.h` has it.
 
-use crate::{Answer, Line, Point, Prism, Root, Triangle};
+use crate::{Answer, Line, Point, Prism, Root, Size, Triangle};
 
 extern "C" {
     pub fn gw_line_at(level: u8, position: u64) -> Answer<Line>;
@@ -117,6 +117,28 @@ extern "C" {
         boundary: *mut u32,
         boundaries: usize,
     ) -> u64;
+
+    pub fn gw_file_write(
+        k: u16,
+        root: *const u16,
+        roots: usize,
+        level: *const u8,
+        levels: usize,
+        position: *const u64,
+        positions: usize,
+        bytes: *mut u8,
+        length: usize,
+    ) -> Answer<u64>;
+    pub fn gw_file_read(
+        bytes: *const u8,
+        length: usize,
+        root: *mut u16,
+        roots: usize,
+        level: *mut u8,
+        levels: usize,
+        position: *mut u64,
+        positions: usize,
+    ) -> Answer<Size>;
 }
 
 #[cfg(test)]

@@ -7,7 +7,7 @@
 //!
 //! [`plain`] has the same calls once more, unproved. It is the second opinion of the tests and the yardstick of the
 //! benchmark; programs use the methods of the three types, [`corner_point`], [`check_list`], [`uniform`], [`adapt`],
-//! [`balanced`] and [`shares`].
+//! [`balanced`], [`shares`], [`write_file`] and [`read_file`].
 
 #![warn(missing_docs)]
 
@@ -15,11 +15,13 @@ use std::cmp::Ordering;
 
 mod answer;
 mod ffi;
+mod files;
 mod lists;
 pub mod plain;
 mod points;
 
 pub use answer::{Answer, Refusal};
+pub use files::{read_file, write_file, Size};
 pub use lists::{adapt, balanced, check_list, shares, uniform};
 pub use points::{corner_point, Corner, Point, Root};
 

@@ -4,28 +4,11 @@
 mod common;
 
 use common::calls::{balanced, check, uniform, Adaption, Answers, Sharing};
-use common::leaves::Leaves;
 use common::lent::sampled;
-use common::sample::{run, words, Fields, Lines};
+use common::sample::{run, segments, words, Fields, Lines};
 
 fn all<T>(answers: Answers<T>, value: impl Fn(&T) -> Vec<i128>) -> Lines {
     Ok(Some(answers.iter().map(|answer| words(answer, &value)).collect()))
-}
-
-/// Leaves in the words of the sample: how many, the number of segments, then each as `Fields::leaves` reads it.
-fn segments(leaves: &Leaves) -> Vec<i128> {
-    let mut all: Vec<[i128; 4]> = Vec::new();
-    let mut due = None;
-    for i in 0..leaves.len() {
-        let (root, level, position) = leaves.get(i);
-        match all.last_mut() {
-            Some(segment) if due == Some((root as u32, level, position)) => segment[3] += 1,
-            _ => all.push([root as i128, level as i128, position as i128, 1]),
-        }
-        let last = position + 1 == 1 << (3 * level);
-        due = Some(if last { (root as u32 + 1, level, 0) } else { (root as u32, level, position + 1) });
-    }
-    [leaves.len() as i128, all.len() as i128].into_iter().chain(all.into_iter().flatten()).collect()
 }
 
 /// The answers to a list line.

@@ -278,3 +278,51 @@ fn shares() {
     };
     assert_eq!(zero, 3 << 8 | 16);
 }
+
+/// A refused file has length 0, and writes nothing; lengths are taken from their own column.
+#[test]
+fn files_written() {
+    let (root, level, position, mut bytes) = ([0, 1, 2], [0, 0, 22], [0, 0, 0], [7; 9]);
+    let mut write = |k, [roots, levels, positions, length]: [usize; 4]| unsafe {
+        let (root, level, position) = (root.as_ptr(), level.as_ptr(), position.as_ptr());
+        gw_file_write(k, root, roots, level, levels, position, positions, bytes.as_mut_ptr(), length)
+    };
+    let refused = |refusal| Answer { refusal, value: 0 };
+    assert_eq!([write(0, [2, 2, 2, 9]), write(4_097, [0, 1, 2, 0])], [refused(17); 2]);
+    for lengths in [[1, 2, 2, 9], [2, 1, 2, 9], [2, 2, 1, 9], [0, 0, 0, 9]] {
+        assert_eq!(write(2, lengths), refused(11), "{lengths:?}");
+    }
+    assert_eq!([write(3, [3, 3, 3, 9]), write(3, [2, 2, 2, 9])], [refused(2 << 8 | 1), refused(2 << 8 | 12)]);
+    assert_eq!([write(2, [2, 2, 2, 0]), write(2, [2, 2, 2, 7])], [refused(8 << 8 | 14); 2]);
+    assert_eq!(bytes, [7; 9]);
+    let last =
+        unsafe { gw_file_write(2, root.as_ptr(), 2, level.as_ptr(), 2, position.as_ptr(), 2, bytes.as_mut_ptr(), 9) };
+    assert_eq!(last, Answer { refusal: 0, value: 8 });
+    assert_eq!(bytes, [0x50, 0x47, 0x52, 0x31, 2, 1, 0, 2, 7]);
+}
+
+/// A refused reading has no roots and no leaves, and writes nothing; lengths are taken from their own column.
+#[test]
+fn files_read() {
+    let file = [0x50, 0x47, 0x52, 0x31, 2, 2, 0, 1, 1, 8, 7];
+    let (mut root, mut level, mut position) = ([7; 10], [7; 10], [7; 10]);
+    let mut read = |length, [roots, levels, positions]: [usize; 3]| {
+        let (root, level, position) = (root.as_mut_ptr(), level.as_mut_ptr(), position.as_mut_ptr());
+        unsafe { gw_file_read(file.as_ptr(), length, root, roots, level, levels, position, positions) }
+    };
+    let refused = |refusal| Answer { refusal, value: Size { roots: 0, leaves: 0 } };
+    for lengths in [[9, 10, 10], [10, 9, 10], [10, 10, 9]] {
+        assert_eq!([read(10, lengths), read(0, lengths)], [refused(11); 2], "{lengths:?}");
+    }
+    assert_eq!([read(0, [0; 3]), read(3, [10; 3])], [refused(18); 2]);
+    assert_eq!([read(4, [0; 3]), read(9, [10; 3])], [refused(4 << 8 | 19), refused(9 << 8 | 19)]);
+    assert_eq!([read(11, [0; 3]), read(11, [10; 3])], [refused(10 << 8 | 22); 2]);
+    assert_eq!([read(10, [0; 3]), read(10, [8; 3])], [refused(9 << 8 | 14); 2]);
+    assert_eq!((root, level, position), ([7; 10], [7; 10], [7; 10]));
+    let (root_at, level_at, position_at) = (root.as_mut_ptr(), level.as_mut_ptr(), position.as_mut_ptr());
+    let last = unsafe { gw_file_read(file.as_ptr(), 10, root_at, 10, level_at, 10, position_at, 10) };
+    assert_eq!(last, Answer { refusal: 0, value: Size { roots: 2, leaves: 9 } });
+    assert_eq!(root, [0, 1, 1, 1, 1, 1, 1, 1, 1, 7]);
+    assert_eq!(level, [0, 1, 1, 1, 1, 1, 1, 1, 1, 7]);
+    assert_eq!(position, [0, 0, 1, 2, 3, 4, 5, 6, 7, 7]);
+}

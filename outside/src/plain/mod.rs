@@ -7,6 +7,7 @@ use crate::{Line, Prism, Triangle};
 
 pub mod adaption;
 pub mod balance;
+pub mod file;
 pub mod line;
 pub mod list;
 pub mod point;

@@ -11,6 +11,7 @@ use gwerniloc::{plain, Line, Prism, Refusal, Triangle};
 
 pub mod calls;
 pub mod faults;
+pub mod files;
 pub mod leaves;
 pub mod lent;
 pub mod marks;

@@ -10,7 +10,7 @@ use super::lent::foreign;
 
 /// How often a call was accepted (at 0) and how often refused with each number.
 #[derive(Default)]
-pub struct Tally([u64; 18]);
+pub struct Tally([u64; 25]);
 
 /// An answer in so many letters, for one can hold a million leaves.
 fn short(answer: &impl Debug) -> String {
@@ -56,9 +56,14 @@ impl Tally {
         self.0[number]
     }
 
+    /// How often the call was put.
+    pub fn total(&self) -> u64 {
+        self.0.iter().sum()
+    }
+
     /// Each of these answers, by number, was met so often, and no other at all.
     pub fn covers(&self, what: &str, numbers: &[usize], least: u64) {
-        println!("{} {what} agreed: 0, 1, .. 17 were met {:?} times", self.0.iter().sum::<u64>(), self.0);
+        println!("{} {what} agreed: 0, 1, .. 24 were met {:?} times", self.total(), self.0);
         for (number, &times) in self.0.iter().enumerate() {
             let possible = numbers.contains(&number);
             assert!(if possible { times >= least } else { times == 0 }, "{number} was met {times} times");

@@ -1,4 +1,4 @@
-//! Nanoseconds a leaf of the list calls.
+//! Nanoseconds a leaf of the list calls and of the grid file.
 
 use std::hint::black_box;
 use std::time::Instant;
@@ -49,6 +49,7 @@ impl Leaves {
 struct Lent {
     new: Leaves,
     boundaries: Vec<u32>,
+    bytes: Vec<u8>,
 }
 
 /// Seconds for one call.
@@ -147,6 +148,46 @@ fn shares(p: u16, roots: u16, leaves: &Leaves, weights: &[u16], lent: &mut Lent)
     );
 }
 
+/// Saves a list into lent bytes, and loads it again.
+fn file(name: &str, roots: u16, leaves: &Leaves, lent: &mut Lent) {
+    let Leaves { root, level, position } = leaves;
+    let count = leaves.len();
+    // The answer of saving is the length of the file, and never more than the leaves.
+    row(
+        &format!("saving, {name}"),
+        count,
+        lent,
+        |Lent { bytes, .. }| gwerniloc::write_file(roots, root, level, position, bytes),
+        |Lent { bytes, .. }| plain::file::write(roots, root, level, position, bytes).result(),
+    );
+    let mut file = vec![0; 10 + 6 * count];
+    let size = gwerniloc::write_file(roots, root, level, position, &mut file).expect("a valid list");
+    file.truncate(size as usize);
+    row(
+        &format!("loading, {name}"),
+        count,
+        lent,
+        |Lent { new, .. }| {
+            gwerniloc::read_file(&file, &mut new.root, &mut new.level, &mut new.position).map(|size| size.leaves)
+        },
+        |Lent { new, .. }| {
+            let answer = plain::file::read(&file, &mut new.root, &mut new.level, &mut new.position);
+            answer.result().map(|size| size.leaves)
+        },
+    );
+}
+
+fn files(sixth: &Leaves, mixed: &Leaves, lent: &mut Lent) {
+    file("all of level 6", 4, sixth, lent);
+    let mut second = false;
+    let half = Leaves::new(7, 5, || {
+        second = !second;
+        !second
+    });
+    file("every second of level 5 refined", 7, &half, lent);
+    file("levels 5 and 6 at random", 7, mixed, lent);
+}
+
 /// The three columns copied, which is what an adaption that keeps all leaves does after its checks.
 fn copy(leaves: &Leaves, lent: &mut Lent) {
     let copy = |lent: &mut Lent| {
@@ -186,7 +227,7 @@ pub fn rows(random: &mut Random) {
     println!("{:<44} {:>9} {:>9} {:>9} {:>9} {:>7}", "call", "leaves", "answer", "proved", "plain", "ratio");
     let sixth = Leaves::new(4, 6, || false);
     let mixed = Leaves::new(7, 5, || random.next() & 1 == 1);
-    let lent = &mut Lent { new: sixth.clone(), boundaries: vec![0; 4_097] };
+    let lent = &mut Lent { new: sixth.clone(), boundaries: vec![0; 4_097], bytes: vec![0; sixth.len()] };
     copy(&sixth, lent);
     uniform(4, 6, lent);
     check("all of level 6", 4, &sixth, lent);
@@ -197,4 +238,5 @@ pub fn rows(random: &mut Random) {
     shares(16, 4, &sixth, &weights, lent);
     shares(4_096, 4, &sixth, &weights, lent);
     adaptions(random, &sixth, lent);
+    files(&sixth, &mixed, lent);
 }
