@@ -47,5 +47,11 @@ int main(void)
     print_number("its children are a family", gw_prism_family(level, 8, x, 8, y, 8, z, 8, kind, 8));
     kind[5] = 2;
     print_number("with one damaged", gw_prism_family(level, 8, x, 8, y, 8, z, 8, kind, 8));
+    /* A corner of the element in a root in space: 50 50 20. */
+    gw_root root = {{{0, 0, 0}, {100, 0, 0}, {100, 100, 0}, {0, 0, 40}, {100, 0, 40}, {100, 100, 40}}};
+    gw_point_result point = gw_corner_point(1, 6, 1, root);
+    printf("corner 1 of element 6: %g %g %g\n", point.value.x, point.value.y, point.value.z);
+    root.corner[5].z = 513;
+    printf("beyond 512: refused %u\n", GW_REFUSAL_NUMBER(gw_corner_point(1, 6, 1, root).refusal));
     return 0;
 }

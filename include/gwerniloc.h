@@ -19,7 +19,7 @@
  *    5  position not below children^level
  *    6  parent of level 0; descendant level smaller than the element's own
  *    7  child of level 21; mark 1 on a leaf of level 21
- *    8  child or face number too large
+ *    8  child, face or corner number too large
  *    9  successor of the last
  *   10  neighbour outside the root
  *   11  columns of one list unequal; input list empty or over 1,048,576; marks or weights of another length
@@ -34,6 +34,7 @@
  *   20  number not shortest, or third byte with top bit
  *   21  number of runs outside 1 to 1,048,576; run of 0; level as in the run before
  *   22  bytes after the last run
+ *   24  root corner outside -512 to 512
  */
 #ifndef GWERNILOC_H
 #define GWERNILOC_H
@@ -239,6 +240,32 @@ gw_order_result gw_prism_compare(gw_prism e, gw_prism f);
 gw_number_result gw_prism_family(const uint8_t *level, size_t level_length, const uint32_t *x, size_t x_length,
                                  const uint32_t *y, size_t y_length, const uint32_t *z, size_t z_length,
                                  const uint8_t *kind, size_t kind_length);
+
+/* ---- corner points */
+
+/* A root in space: its six corners, 3 to 5 above 0 to 2, each three whole numbers from -512 to 512. */
+typedef struct gw_corner {
+    int64_t x, y, z;
+} gw_corner;
+
+typedef struct gw_root {
+    gw_corner corner[6];
+} gw_root;
+
+typedef struct gw_point {
+    double x, y, z;
+} gw_point;
+
+typedef struct gw_point_result {
+    uint64_t refusal;
+    gw_point value;
+} gw_point_result;
+
+/** The point in space of a corner, 0 to 5, of the prism at a position of a level, in a root with the given corners. For the
+ *  corner's local (X, Y, Z) each coordinate has exactly the value Q / 2^42, zero as +0, where with v0 to v5 the root's
+ *  Tj = 2^21 vj + (v(j+3) - vj) Z and Q = 2^21 T0 + (T1 - T0) X + (T2 - T1) Y. Flat and folded roots are accepted.
+ *  Refuses: 1 level above 21; 5 position not below 8^level; 8 corner too large; 24 a root's corner outside -512 to 512. */
+gw_point_result gw_corner_point(uint8_t level, uint64_t position, uint8_t corner, gw_root root);
 
 /* ---- leaf lists: columns root, level, position, each a pointer and a length */
 

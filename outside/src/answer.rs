@@ -7,7 +7,7 @@ use std::fmt;
 /// offset of the number, and refusal 14 how many entries or bytes are needed.
 #[derive(Clone, Copy, Debug, PartialEq, Eq, Hash)]
 pub struct Refusal {
-    /// The number, 1 to 22.
+    /// The number, 1 to 24.
     pub number: u8,
     /// The place.
     pub place: u64,

@@ -1,6 +1,6 @@
 //! The C interface, as `gwerniloc.h` has it.
 
-use crate::{Answer, Line, Prism, Size, Triangle};
+use crate::{Answer, Line, Point, Prism, Root, Size, Triangle};
 
 extern "C" {
     pub fn gw_line_at(level: u8, position: u64) -> Answer<Line>;
@@ -55,6 +55,8 @@ extern "C" {
         kind: *const u8,
         kind_length: usize,
     ) -> Answer<u64>;
+
+    pub fn gw_corner_point(level: u8, position: u64, corner: u8, root: Root) -> Answer<Point>;
 
     pub fn gw_list_check(
         k: u16,

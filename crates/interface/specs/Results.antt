@@ -4,7 +4,7 @@
 --                  column has as many entries)
 --   valueOr z o    the value, z on a refusal
 --   passResult    of a call with no value: the word alone
---   lineResult, triangleResult, prismResult, numberResult, truthResult, orderResult
+--   lineResult, triangleResult, prismResult, numberResult, truthResult, orderResult, pointResult
 --                  what the call with the outcome o returns: on a refusal every field of the value is 0
 --   gridResult     the same for a grid that was read: its roots and the number of its leaves
 --   UniformResult, AdaptResult, SharesResult, WriteResult, ReadResult
@@ -18,10 +18,12 @@ use mathlib.Core.List.{List}
 use Prim.Native.Nat.{ℕ, _+_, _*_, _%_, _^_}
 use lib.IntN.{ℤ, pos, negsuc}
 use lib.ListN.{length}
+use lib.Ieee.{fin}
 use Rattle.paper.specs.Outcome.{Outcome, accepted, refused, mapped, Order, less, same, greater}
 use Rattle.line.specs.declared.Line.{Line}
 use Rattle.triangle.specs.declared.Triangle.{Triangle}
 use Rattle.prism.specs.declared.Prism.{Prism}
+use Rattle.corners.specs.declared.Point.{Point}
 use Rattle.paper.specs.Memory.{lent}
 use Rattle.leaves.specs.Calls.{Columns, equalColumns, uniform}
 use Rattle.adaption.specs.Adaption.{adapted}
@@ -38,6 +40,7 @@ use Rattle.interface.specs.declared.TriangleResult.{TriangleResult}
 use Rattle.interface.specs.declared.PrismResult.{PrismResult}
 use Rattle.interface.specs.declared.NumberResult.{NumberResult}
 use Rattle.interface.specs.declared.OrderResult.{OrderResult}
+use Rattle.interface.specs.declared.PointResult.{PointResult}
 use Rattle.interface.specs.declared.GridResult.{GridResult}
 
 abbrev pub word : {A : Type 0} → Outcome A → ℕ
@@ -80,6 +83,12 @@ passResult o = word o
 
 unfoldable pub gridResult : Outcome Size → GridResult
 gridResult o = record { refusal = word o; roots = valueOr (size 0 0) o .roots; leaves = valueOr (size 0 0) o .leaves }
+
+-- a coordinate 0 is +0
+unfoldable pub pointResult : Outcome Point → PointResult
+pointResult o =
+    let zero = fin false 0 (pos 0) in
+    record { refusal = word o; value = valueOr (record { x = zero; y = zero; z = zero }) o }
 
 pub record UniformResult (k level : ℕ) (r : NumberResult) (roots levels positions roots′ levels′ positions′ : List ℕ) : Type 0 where
   pub result : r ≡ numberResult (uniform 8 21 k level (equalColumns roots levels positions) (length roots))

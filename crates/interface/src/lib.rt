@@ -3,10 +3,12 @@
 mod file_calls;
 mod line_calls;
 mod list_calls;
+mod point_calls;
 mod prism_calls;
 mod results;
 mod triangle_calls;
 
+use corners::Point;
 use line::Line;
 use prism::Prism;
 use triangle::Triangle;
@@ -47,4 +49,10 @@ pub struct GridResult {
     pub refusal: u64,
     pub roots: u64,
     pub leaves: u64,
+}
+
+#[repr(C)]
+pub struct PointResult {
+    pub refusal: u64,
+    pub value: Point,
 }

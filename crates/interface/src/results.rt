@@ -3,8 +3,11 @@ use crate::GridResult;
 use crate::LineResult;
 use crate::NumberResult;
 use crate::OrderResult;
+use crate::PointResult;
 use crate::PrismResult;
 use crate::TriangleResult;
+use corners::Point;
+use corners::PointAnswer;
 use gridfile::GridAnswer;
 use line::Line;
 use line::LineAnswer;
@@ -19,11 +22,12 @@ use triangle::TriangleAnswer;
 ghost use mathlib.Core.Path.{_≡_};
 ghost use Prim.Native.Nat.{_+_, _*_, _%_, _^_};
 ghost use Rattle.paper.specs.Readings.{valueOf, truthOf, orderOf, passOf};
+ghost use Rattle.corners.specs.CornerPoints.{pointOf};
 ghost use Rattle.line.specs.Elements as lines;
 ghost use Rattle.triangle.specs.Elements as triangles;
 ghost use Rattle.prism.specs.Elements as prisms;
 ghost use Rattle.gridfile.specs.Readings.{gridOf};
-ghost use Rattle.interface.specs.Results.{lineResult, triangleResult, prismResult, numberResult, truthResult, orderResult, passResult, gridResult};
+ghost use Rattle.interface.specs.Results.{lineResult, triangleResult, prismResult, numberResult, truthResult, orderResult, passResult, gridResult, pointResult};
 
 // The word of a refusal.
 fn word(number: u8, place: u64) -> u64
@@ -171,6 +175,25 @@ pub(crate) fn of_grid(a: GridAnswer) -> GridResult
             refusal: word(number, place),
             roots: 0,
             leaves: 0,
+        },
+    }
+}
+
+pub(crate) fn of_point(a: PointAnswer) -> PointResult
+    ensures { λ r. ⌜ r ≡ pointResult (pointOf a) ⌝ }
+{
+    match a {
+        PointAnswer::Is(p) => PointResult {
+            refusal: 0,
+            value: p,
+        },
+        PointAnswer::Refused(number, place) => PointResult {
+            refusal: word(number, place),
+            value: Point {
+                x: 0.0,
+                y: 0.0,
+                z: 0.0,
+            },
         },
     }
 }

@@ -11,7 +11,7 @@ use Rattle.gridfile.specs.Readings.{gridOf}
 use Rattle.promises.specs.Demand1.{Three, OfCalls}
 use Rattle.promises.specs.Demand2.{Determined}
 use Rattle.promises.proofs.Demand2.{of-elements}
-use Rattle.promises.proofs.Numbered.{on-lists}
+use Rattle.promises.proofs.Numbered.{on-lists, on-points}
 use Rattle.promises.proofs.Faults.{on-lines, on-triangles, on-prisms}
 
 three-same : (m m′ : Three) → m .roots ≡ m′ .roots → m .levels ≡ m′ .levels → m .positions ≡ m′ .positions → m ≡ m′
@@ -58,6 +58,7 @@ of-calls =
       on-triangles = on-triangles;
       on-prisms = on-prisms;
       on-lists = on-lists;
+      on-points = on-points;
       uniform = λ k level m. (
         λ r s a b f g. let same = one-answer valueOf numbers _ r s (f .answer) (g .answer) in (same, columns-decided valueOf numbers _ m r s a b same (f .columns) (g .columns)),
         λ r a number at f e. columns-spared valueOf numbers _ m r a number at (f .columns) e,

@@ -57,10 +57,14 @@ use Rattle.gridfile.specs.declared.GridAnswer.the-variants as grid-answer
 use Rattle.gridfile.proofs.Coded.{codec}
 use Rattle.gridfile.proofs.OneFile.{one-file, round-trip}
 use Rattle.gridfile.proofs.InMemory.{in-memory}
+use Rattle.corners.specs.CornerPoints.{pointOf}
+use Rattle.corners.specs.declared.PointAnswer.{PointAnswer}
+use Rattle.corners.specs.declared.PointAnswer.the-variants as point-answer
+use Rattle.corners.proofs.Promised.{promised}
 use Rattle.line.specs.Elements as lines
 use Rattle.triangle.specs.Elements as triangles
 use Rattle.prism.specs.Elements as prisms
-use Rattle.promises.specs.Demand2.{Elements, Determined, OfElements, OfLists, OfFiles}
+use Rattle.promises.specs.Demand2.{Elements, Determined, OfElements, OfLists, OfFiles, OfPoints}
 
 elements : {E P : Type 0} (S : Shape E) (index : E → ℕ) (points : E → ℕ → List P) (faceAcross : ℕ → ℕ)
     → Lawful S → Ranked S index → Faces S points faceAcross → Elements S index points faceAcross
@@ -149,6 +153,13 @@ numbers-read = determined-by readOf (answer value-read number-read.Refused) undo
     undo (number-read.Is value next) = refl
     undo (number-read.Refused n p) = refl
 
+point-answers : Determined pointOf
+point-answers = determined-by pointOf (answer point-answer.Is point-answer.Refused) undo
+  where
+    undo : (r : PointAnswer) → answer point-answer.Is point-answer.Refused (pointOf r) ≡ r
+    undo (point-answer.Is p) = refl
+    undo (point-answer.Refused n p) = refl
+
 abbrev ordered : Order → OrderAnswer
 ordered less = order-answer.Less
 ordered same = order-answer.Same
@@ -171,7 +182,7 @@ of-elements =
       of-prisms = elements prism (prismIndex 21) (prism-points.facePoints 21) prism-points.faceAcross (prism-laws.lawful 21) (prism-ranked 21) (prism-faces 21);
       children-are-bey's = bey 21;
       faces-by-definition-27 = definition-27 21;
-      determined = record { line-elements = line-elements; triangle-elements = triangle-elements; prism-elements = prism-elements; numbers = number-answers; truths = truth-answers; orders = order-answers; passes = pass-answers; grids = grid-answers; numbers-read = numbers-read };
+      determined = record { line-elements = line-elements; triangle-elements = triangle-elements; prism-elements = prism-elements; numbers = number-answers; truths = truth-answers; orders = order-answers; passes = pass-answers; grids = grid-answers; numbers-read = numbers-read; points = point-answers };
     }
 
 pub of-lists : OfLists
@@ -187,3 +198,6 @@ of-lists =
 
 pub of-files : OfFiles
 of-files = record { numbers = codec; one-file = one-file 8 21 (omega arith) (omega arith); round-trip = round-trip 8 21 (omega arith) (omega arith); in-memory = in-memory }
+
+pub of-points : OfPoints
+of-points = record { promised = promised }

@@ -19,6 +19,8 @@ use Rattle.shares.specs.Calls.{weightFault}
 use Rattle.gridfile.specs.File.{fileOf}
 use Rattle.gridfile.specs.Numbers.{read, byteAt, numberAt}
 use Rattle.gridfile.specs.Reading.{and-then, opens, head, afterRuns, afterRoots, headAt, fits, leavesOf, after, runRead, afterCount, afterLevel, runAt, runsAt, headed, gridAt, fitted}
+use Rattle.corners.specs.declared.Root.{Root}
+use Rattle.corners.specs.CornerPoints.{rootWithin, cornerPoint}
 use Rattle.tree.specs.Words
 use Rattle.tree.specs.Calls as calls
 use Rattle.leaves.specs.Calls as lists
@@ -188,3 +190,13 @@ on-lists =
       reading = λ bytes equal room.
           when (not equal) 11 0 refl (then-said (gridAt 8 21 bytes) (fitted room) (grid-said 8 21 bytes) (λ g. when (ltb room (length (g .leaves))) 14 (length (g .leaves)) refl (fine g)));
     }
+
+-- ---- points
+pub on-points : (l p i : ℕ) (r : Root) → Numbered (cornerPoint l p i r)
+unfolding cornerPoint
+on-points l p i r =
+    when (ltb 21 l) 1 0 refl
+    (when (leb (8 ^ l) p) 5 0 refl
+    (when (leb 6 i) 8 0 refl
+    (when (not (rootWithin r)) 24 0 refl
+    (fine _))))

@@ -27,6 +27,8 @@ use Rattle.shares.specs.Calls.{Shared}
 use Rattle.gridfile.specs.Readings.{gridOf}
 use Rattle.gridfile.specs.Calls.{FileWritten, FileRead}
 use Rattle.gridfile.specs.declared.GridAnswer.{GridAnswer}
+use Rattle.corners.specs.declared.Root.{Root}
+use Rattle.corners.specs.CornerPoints.{cornerPoint}
 use Rattle.tree.specs.Shape.{Shape}
 use Rattle.line.specs.Elements.{line}
 use Rattle.triangle.specs.Elements.{triangle}
@@ -99,6 +101,7 @@ pub record OfCalls : Type 0 where
   pub on-triangles : OnElements triangle
   pub on-prisms : OnElements prism
   pub on-lists : OnLists
+  pub on-points : (l p i : ℕ) (r : Root) → Numbered (cornerPoint l p i r)
   pub uniform : (k level : ℕ) (m : Three) → Decided (Starts k level m) × Spared valueOf m (Starts k level m)
   pub adaption : (k : ℕ) (vs : Three) (marks : List ℕ) (m : Three) → Decided (Adapts k vs marks m) × Spared valueOf m (Adapts k vs marks m)
   pub shares : (k p : ℕ) (vs : Three) (weights m : List ℕ) → Decided (Shares k p vs weights m) × Spared passOf m (Shares k p vs weights m)

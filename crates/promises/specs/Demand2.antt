@@ -8,6 +8,7 @@
 --   OfLists       demand 2, of leaf lists: the list check is exact, each smallest cell lies in one leaf, a leaf's relatives are the
 --                 prism's, adaption is the paper's one pass, boundaries are the paper's, balanced is the paper's
 --   OfFiles       demand 2, of grid files: "a list has one file and a file one list", and writing and reading undo each other
+--   OfPoints      demand 2, of corner points: the exact value and no other, the bound, the root's own corners, one point for one local corner
 --
 -- Assumes nothing.
 use mathlib.Core.Path.{_≡_}
@@ -23,9 +24,11 @@ use Rattle.leaves.specs.Cells.{Tied}
 use Rattle.balance.specs.Balance.{Exact}
 use Rattle.gridfile.specs.Readings.{readOf, gridOf}
 use Rattle.gridfile.specs.Laws.{Codec, OneFile, RoundTrip, InMemory}
+use Rattle.corners.specs.CornerPoints.{pointOf}
 use Rattle.leaves.specs.Laws as leaves
 use Rattle.adaption.specs.Laws as adaption
 use Rattle.shares.specs.Laws as shares
+use Rattle.corners.specs.Laws as corners
 use Rattle.line.specs.Elements as lines
 use Rattle.triangle.specs.Elements as triangles
 use Rattle.prism.specs.Elements as prisms
@@ -55,6 +58,7 @@ pub record Answers : Type 0 where
   pub passes : Determined passOf
   pub grids : Determined gridOf
   pub numbers-read : Determined readOf
+  pub points : Determined pointOf
 
 pub record OfElements : Type 0 where
   pub of-lines : Elements lines.line lineIndex (line-points.facePoints 21) line-points.faceAcross
@@ -77,3 +81,6 @@ pub record OfFiles : Type 0 where
   pub one-file : OneFile 8 21
   pub round-trip : RoundTrip 8 21
   pub in-memory : InMemory
+
+pub record OfPoints : Type 0 where
+  pub promised : corners.Promised

@@ -10,6 +10,7 @@ pub mod balance;
 pub mod file;
 pub mod line;
 pub mod list;
+pub mod point;
 pub mod prism;
 pub mod shares;
 pub mod triangle;

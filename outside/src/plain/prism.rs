@@ -3,15 +3,9 @@
 use super::{fault_prism as fault, outside, sides, CHILD, EDGE, FACE, HIGHEST, UP};
 use crate::{Answer, Prism};
 
-/// The prism at a position of a level.
-#[inline(never)]
-pub extern "C" fn at(level: u8, position: u64) -> Answer<Prism> {
-    if level > HIGHEST {
-        return Answer::refused(1);
-    }
-    if position >> (3 * level) != 0 {
-        return Answer::refused(5);
-    }
+/// The prism at a position that the level has.
+#[inline(always)]
+pub(super) fn placed(level: u8, position: u64) -> Prism {
     let mut e = Prism { x: 0, y: 0, z: 0, level, kind: 0 };
     let mut kind = 0;
     for i in (0..level).rev() {
@@ -26,7 +20,19 @@ pub extern "C" fn at(level: u8, position: u64) -> Answer<Prism> {
     e.x <<= HIGHEST - level;
     e.y <<= HIGHEST - level;
     e.z <<= HIGHEST - level;
-    Answer::accepted(e)
+    e
+}
+
+/// The prism at a position of a level.
+#[inline(never)]
+pub extern "C" fn at(level: u8, position: u64) -> Answer<Prism> {
+    if level > HIGHEST {
+        return Answer::refused(1);
+    }
+    if position >> (3 * level) != 0 {
+        return Answer::refused(5);
+    }
+    Answer::accepted(placed(level, position))
 }
 
 /// A child's number and its parent's type, from the prism's last step.

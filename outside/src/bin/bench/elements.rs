@@ -7,14 +7,14 @@ use gwerniloc::{plain, Line, Prism, Refusal, Triangle};
 
 use crate::Random;
 
-const INPUTS: usize = 4_096;
+pub const INPUTS: usize = 4_096;
 /// Passes over the inputs between two looks at the clock.
 const ROUNDS: usize = 16;
 const REPETITIONS: usize = 15;
 
 /// What the sum takes of an answer. One field is enough, for the call cannot know which; and fields that lie together
 /// would be read as one word, which waits for the call's separate stores.
-trait Fold {
+pub trait Fold {
     fn fold(self) -> u64;
 }
 
@@ -72,7 +72,7 @@ fn time<I: Copy, A: Fold>(inputs: &[I], call: impl Fn(I) -> A) -> f64 {
 }
 
 /// Best of the repetitions, proved and plain in turn, printed as one row.
-fn row<I: Copy, A: Fold + PartialEq>(
+pub fn row<I: Copy, A: Fold + PartialEq>(
     name: &str,
     level: u8,
     inputs: &[I],

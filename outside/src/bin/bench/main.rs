@@ -5,6 +5,7 @@
 
 mod elements;
 mod lists;
+mod points;
 
 /// The generator splitmix64.
 struct Random(u64);
@@ -22,6 +23,7 @@ impl Random {
 fn main() {
     let mut random = Random(1);
     elements::rows(&mut random);
+    points::rows(&mut random);
     println!();
     lists::rows(&mut random);
 }

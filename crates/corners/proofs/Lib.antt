@@ -1,0 +1,11 @@
+pub mod Differences
+pub mod Offsets
+pub mod MachineWords
+pub mod Exact
+pub mod Conjunctions
+pub mod Roots
+pub mod LocalCorners
+pub mod Call
+pub mod RootCorners
+pub mod Promised
+pub mod Controls

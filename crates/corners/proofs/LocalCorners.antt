@@ -1,0 +1,132 @@
+-- The corners of an element lie within the root: its anchor does with a side to spare, and for type 1 y is below x by a side at least.
+-- Assumes nothing.
+use mathlib.Core.Path.{_≡_, sym, ap, ap₂, _∙_, subst⁻¹}
+use mathlib.Core.List.{List, [], _∷_}
+use Prim.Native.Nat.{ℕ, zero, suc, _+_, _*_, _/_, _%_, _^_, _≤_, _<_}
+use native.Mathlib.Nat.{mul-le-mul-right, add-mul, mod-lt}
+use native.Mathlib.Omega.{arith}
+use lib.Dec.{lit<, lit≤}
+use lib.ListN.{getD}
+use Rattle.tree.specs.Anchors.{side}
+use Rattle.tree.specs.Laws.{Sound}
+use Rattle.tree.proofs.Anchor.{grid-units, end-inside}
+use Rattle.triangle.specs.Points.{Point, point, cornersBy}
+use Rattle.triangle.proofs.Laws.{known-units}
+use Rattle.prism.specs.declared.Prism.{Prism}
+use Rattle.prism.specs.Elements.{prism, prismTo, triangleOf}
+use Rattle.prism.specs.Points as prisms
+use Rattle.prism.proofs.Laws.{grids}
+use Rattle.corners.specs.declared.work.Local.{Local}
+use Rattle.corners.specs.Laws.{InsideRoot}
+use Rattle.corners.specs.Steps.{CornerRow, localOf}
+
+-- what the checks on an element leave room for
+pub record Room (e : Prism) (h : ℕ) : Type 0 where
+  pub two-types : e .kind < 2
+  pub below : e .y + e .kind * h ≤ e .x
+  pub room-x : e .x + h ≤ 2 ^ 21
+  pub room-z : e .z + h ≤ 2 ^ 21
+
+scaled-up : (h u v t x y : ℕ) → u * h ≡ x → v * h ≡ y → v + t ≤ u → y + t * h ≤ x
+scaled-up h u v t x y at-x at-y inside = omega (arith, mul-le-mul-right h inside, add-mul v t h)
+
+pub room : (e : Prism) → Sound prism e → Room e (side 21 (e .level))
+unfolding prismTo
+room e sound =
+    let known = grids 21 e sound in
+    let plan = known .0 in
+    record {
+      two-types = plan .typed;
+      below = scaled-up (side 21 (e .level)) (e .x / side 21 (e .level)) (e .y / side 21 (e .level)) (e .kind) (e .x) (e .y)
+          (grid-units 21 (e .level) (e .x) (plan .grid-x)) (grid-units 21 (e .level) (e .y) (plan .grid-y))
+          (known-units 21 (triangleOf e) plan);
+      room-x = end-inside 21 (e .level) (e .x) (plan .shallow) (plan .grid-x);
+      room-z = end-inside 21 (e .level) (e .z) (plan .shallow) (known .1);
+    }
+
+-- the same with the side that the code found
+pub room-at : (e : Prism) (h : ℕ) → h ≡ side 21 (e .level) → Sound prism e → Room e h
+room-at e h same sound = subst⁻¹ (Room e) same (room e sound)
+
+-- none or one side further, in each coordinate: still within the edge
+pub record Reaches (e : Prism) (h s i : ℕ) : Type 0 where
+  pub step-x : s % 2 * h ≤ 2 ^ 21
+  pub step-y : s / 2 * h ≤ 2 ^ 21
+  pub step-z : i / 3 * h ≤ 2 ^ 21
+  pub to-x : e .x + s % 2 * h ≤ 2 ^ 21
+  pub to-y : e .y + s / 2 * h ≤ 2 ^ 21
+  pub to-z : e .z + i / 3 * h ≤ 2 ^ 21
+
+one-side : (n h a : ℕ) → n ≤ 1 → a + h ≤ 2 ^ 21 → a + n * h ≤ 2 ^ 21
+one-side n h a once inside = omega (arith, mul-le-mul-right h once)
+
+pub reaches : (e : Prism) (h s i : ℕ) → h ≡ side 21 (e .level) → s ≤ 3 → Sound prism e → i < 6 → Reaches e h s i
+reaches e h s i same narrow sound small =
+    let r = room-at e h same sound in
+    let far-x = one-side (s % 2) h (e .x) (omega arith) (r .room-x) in
+    let far-y = one-side (s / 2) h (e .y) (omega arith) (omega (arith, r .room-x, r .below)) in
+    let far-z = one-side (i / 3) h (e .z) (omega arith) (r .room-z) in
+    record { step-x = omega arith; step-y = omega arith; step-z = omega arith; to-x = far-x; to-y = far-y; to-z = far-z }
+
+-- ---- the corner of a triangle by type and number
+abbrev planAt : ℕ → ℕ → ℕ → ℕ → ℕ → Point
+planAt t k h x y = getD (cornersBy t h x y) k (point 0 0)
+
+-- the two rows of three that the code reads
+abbrev rows : List (List ℕ)
+rows = (0 ∷ 1 ∷ 3 ∷ []) ∷ (0 ∷ 2 ∷ 3 ∷ []) ∷ []
+
+placed-by : (t k : ℕ) → t < 2 → k < 3 → (h x y : ℕ)
+    → planAt t k h x y ≡ point (x + getD (getD rows t []) k 0 % 2 * h) (y + getD (getD rows t []) k 0 / 2 * h)
+placed-by zero zero a b h x y = ap₂ point (omega arith) (omega arith)
+placed-by zero (suc zero) a b h x y = ap₂ point (omega arith) (omega arith)
+placed-by zero (suc (suc zero)) a b h x y = ap₂ point (omega arith) (omega arith)
+placed-by zero (suc (suc (suc k))) a b h x y = absurd (omega arith)
+placed-by (suc zero) zero a b h x y = ap₂ point (omega arith) (omega arith)
+placed-by (suc zero) (suc zero) a b h x y = ap₂ point (omega arith) (omega arith)
+placed-by (suc zero) (suc (suc zero)) a b h x y = ap₂ point (omega arith) (omega arith)
+placed-by (suc zero) (suc (suc (suc k))) a b h x y = absurd (omega arith)
+placed-by (suc (suc t)) k a b h x y = absurd (omega arith)
+
+narrow-by : (t k : ℕ) → t < 2 → k < 3 → getD (getD rows t []) k 0 ≤ 3
+narrow-by zero zero a b = lit≤ tt
+narrow-by zero (suc zero) a b = lit≤ tt
+narrow-by zero (suc (suc zero)) a b = lit≤ tt
+narrow-by zero (suc (suc (suc k))) a b = absurd (omega arith)
+narrow-by (suc zero) zero a b = lit≤ tt
+narrow-by (suc zero) (suc zero) a b = lit≤ tt
+narrow-by (suc zero) (suc (suc zero)) a b = lit≤ tt
+narrow-by (suc zero) (suc (suc (suc k))) a b = absurd (omega arith)
+narrow-by (suc (suc t)) k a b = absurd (omega arith)
+
+pub corner-row : (t k : ℕ) → t < 2 → k < 3 → CornerRow t k (getD (getD rows t []) k 0)
+corner-row t k a b = record { narrow = narrow-by t k a b; placed = placed-by t k a b }
+
+-- ---- as a local corner
+pub found : (e : Prism) (i h s : ℕ) → h ≡ side 21 (e .level) → CornerRow (e .kind) (i % 3) s
+    → record { x = e .x + s % 2 * h; y = e .y + s / 2 * h; z = e .z + i / 3 * h } ≡ localOf (prisms.corner 21 e i)
+found e i h s same row =
+    let at-h : (k : ℕ) → point (e .x + s % 2 * k) (e .y + s / 2 * k) ≡ planAt (e .kind) (i % 3) k (e .x) (e .y) =
+    λ k. sym (row .placed k (e .x) (e .y)) in
+    let lifted : ℕ → Point → Local = λ k p. record { x = p .x; y = p .y; z = e .z + i / 3 * k } in
+    ap (lifted h) (at-h h) ∙ ap (λ (k : ℕ). lifted k (planAt (e .kind) (i % 3) k (e .x) (e .y))) same
+
+inside-plan : (t k h x y : ℕ) → t < 2 → k < 3 → y + t * h ≤ x → x + h ≤ 2 ^ 21
+    → (planAt t k h x y .y ≤ planAt t k h x y .x) × (planAt t k h x y .x ≤ 2 ^ 21)
+inside-plan zero zero h x y a b c d = (omega arith, omega arith)
+inside-plan zero (suc zero) h x y a b c d = (omega arith, omega arith)
+inside-plan zero (suc (suc zero)) h x y a b c d = (omega arith, omega arith)
+inside-plan zero (suc (suc (suc k))) h x y a b c d = absurd (omega arith)
+inside-plan (suc zero) zero h x y a b c d = (omega arith, omega arith)
+inside-plan (suc zero) (suc zero) h x y a b c d = (omega arith, omega arith)
+inside-plan (suc zero) (suc (suc zero)) h x y a b c d = (omega arith, omega arith)
+inside-plan (suc zero) (suc (suc (suc k))) h x y a b c d = absurd (omega arith)
+inside-plan (suc (suc t)) k h x y a b c d = absurd (omega arith)
+
+pub corner-inside : (e : Prism) (i : ℕ) → Sound prism e → i < 6 → InsideRoot (prisms.corner 21 e i)
+corner-inside e i sound small =
+    let h = side 21 (e .level) in
+    let r = room e sound in
+    let plan = inside-plan (e .kind) (i % 3) h (e .x) (e .y) (r .two-types) (mod-lt i (lit< tt)) (r .below) (r .room-x) in
+    let once : i / 3 ≤ 1 = omega arith in
+    record { ordered = plan .0; across = plan .1; upwards = omega (arith, mul-le-mul-right h once, r .room-z) }

@@ -1,0 +1,72 @@
+-- What is promised of corner points, as statements; `proofs/Promised.antt` proves them. Definitions only.
+--
+--   IsQuotient x z   x is an f64 with exactly the value z / 2^42, "zero as +0": the sign is minus only below 0
+--   Exact            each coordinate has that value, and no other f64 has it: so the answer is determined
+--   InsideRoot c     a local corner within the root: Y <= X, none past the edge
+--   Bounded          every corner of every element lies within the root, and |Q| <= 2^51 for it in each coordinate
+--   Meaning          the corners of the root element are the root's own six; two corners with the same local (X, Y, Z) get the
+--                    same point, whatever their levels
+--   Promised         all of it; what is accepted: any root with numbers from -512 to 512, "flat or folded"
+--
+-- Assumes nothing.
+use mathlib.Core.Path.{_≡_}
+use mathlib.Core.Bool.{true}
+use Prim.Native.Nat.{ℕ, _^_, _≤_, _<_}
+use lib.Dec.{T}
+use lib.IntN.{ℤ, natAbs}
+use lib.Ieee.{Float, binary64, ofInt, fits}
+use lib.Ieee.Exact.{HasValue}
+use Rattle.paper.specs.Outcome.{accepted}
+use Rattle.tree.specs.Laws.{Sound}
+use Rattle.tree.specs.Words.{at}
+use Rattle.prism.specs.declared.Prism.{Prism}
+use Rattle.prism.specs.Elements.{prism}
+use Rattle.prism.specs.Points as prisms
+use Rattle.corners.specs.declared.Corner.{Corner}
+use Rattle.corners.specs.declared.Root.{Root}
+use Rattle.corners.specs.declared.Point.{Point}
+use Rattle.corners.specs.CornerPoints.{corner, rootWithin, q, negative, coordinate, pointAt, cornerPoint}
+
+-- HasValue x s a c: x is finite, has the sign s, and is a / c in size
+pub record IsQuotient (x : Float) (z : ℤ) : Type 0 where
+  pub double : T (fits binary64 x)
+  pub value : HasValue x (negative z) (natAbs z) (2 ^ 42)
+
+pub record Exact : Type 0 where
+  pub is : (z : ℤ) → natAbs z ≤ 2 ^ 51 → IsQuotient (coordinate z) z
+  pub only : (z : ℤ) (x : Float) → natAbs z ≤ 2 ^ 51 → IsQuotient x z → x ≡ coordinate z
+
+pub record InsideRoot (c : prisms.Corner) : Type 0 where
+  pub ordered : c .plan .y ≤ c .plan .x
+  pub across : c .plan .x ≤ 2 ^ 21
+  pub upwards : c .height ≤ 2 ^ 21
+
+-- Q of each coordinate at a local corner
+abbrev pub qAt : (Corner → ℤ) → Root → prisms.Corner → ℤ
+qAt coordinateOf r c = q (λ j. coordinateOf (corner r j)) (c .plan .x) (c .plan .y) (c .height)
+
+pub record Small (r : Root) (c : prisms.Corner) : Type 0 where
+  pub in-x : natAbs (qAt (λ v. v .x) r c) ≤ 2 ^ 51
+  pub in-y : natAbs (qAt (λ v. v .y) r c) ≤ 2 ^ 51
+  pub in-z : natAbs (qAt (λ v. v .z) r c) ≤ 2 ^ 51
+
+pub record Bounded : Type 0 where
+  pub inside : (e : Prism) (i : ℕ) → Sound prism e → i < 6 → InsideRoot (prisms.corner 21 e i)
+  pub small : (r : Root) (c : prisms.Corner) → rootWithin r ≡ true → InsideRoot c → Small r c
+
+-- a corner of the root as a point
+abbrev pub pointed : Corner → Point
+pointed v = record { x = ofInt binary64 (v .x); y = ofInt binary64 (v .y); z = ofInt binary64 (v .z) }
+
+pub record Meaning : Type 0 where
+  pub root's-own : (r : Root) (i : ℕ) → rootWithin r ≡ true → i < 6 → cornerPoint 0 0 i r ≡ accepted (pointed (corner r i))
+  pub shared : (l p i m s j : ℕ) (r : Root) → l ≤ 21 → p < 8 ^ l → i < 6 → m ≤ 21 → s < 8 ^ m → j < 6
+      → prisms.corner 21 (at prism l p) i ≡ prisms.corner 21 (at prism m s) j
+      → cornerPoint l p i r ≡ cornerPoint m s j r
+
+pub record Promised : Type 0 where
+  pub accepts : (l p i : ℕ) (r : Root) → l ≤ 21 → p < 8 ^ l → i < 6 → rootWithin r ≡ true
+      → cornerPoint l p i r ≡ accepted (pointAt r (prisms.corner 21 (at prism l p) i))
+  pub exact : Exact
+  pub bounded : Bounded
+  pub meaning : Meaning

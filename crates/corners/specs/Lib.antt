@@ -1,0 +1,3 @@
+pub mod CornerPoints
+pub mod Steps
+pub mod Laws
