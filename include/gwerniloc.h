@@ -2,7 +2,8 @@
  *
  * The edge of the root is 2^21 and the highest level is 21. An element of level l has the side h = 2^(21-l); its
  * coordinates are its anchor. Its kind is its type: a triangle of type 0 has the corners (x, y), (x+h, y), (x+h, y+h),
- * one of type 1 has (x, y), (x, y+h), (x+h, y+h). A prism stands on its triangle from z to z+h. A line has no type.
+ * one of type 1 has (x, y), (x, y+h), (x+h, y+h). A prism stands on its triangle from z to z+h,
+ * its corners 0 to 2 at z and 3 to 5 at z+h. A line has no type.
  *
  * Every call takes any values at all. A column's pointer must not be NULL, also where its length is 0; the columns of one
  * list have one length. A const column is only read; any other is written at its front by an accepted call, and a refused
@@ -243,7 +244,8 @@ gw_number_result gw_prism_family(const uint8_t *level, size_t level_length, cons
 
 /* ---- corner points */
 
-/* A root in space: its six corners, 3 to 5 above 0 to 2, each three whole numbers from -512 to 512. */
+/* A root in space: its six corners, each three whole numbers from -512 to 512. Corners 0 to 2 belong to z = 0, 3 to 5 to
+ * z = 2^21, each over the one three before it; in space they may lie anywhere. */
 typedef struct gw_corner {
     int64_t x, y, z;
 } gw_corner;
@@ -262,9 +264,9 @@ typedef struct gw_point_result {
 } gw_point_result;
 
 /** The point in space of a corner, 0 to 5, of the prism at a position of a level, in a root with the given corners. For the
- *  corner's local (X, Y, Z) each coordinate has exactly the value Q / 2^42, zero as +0, where with v0 to v5 the root's
+ *  corner's local (X, Y, Z), on the scale where the root's edge is 2^21, each coordinate has exactly the value Q / 2^42, zero as +0, where with v0 to v5 the root's
  *  Tj = 2^21 vj + (v(j+3) - vj) Z and Q = 2^21 T0 + (T1 - T0) X + (T2 - T1) Y. Flat and folded roots are accepted.
- *  Refuses: 1 level above 21; 5 position not below 8^level; 8 corner too large; 24 a root's corner outside -512 to 512. */
+ *  Refuses: 1 level above 21; 5 position not below 8^level; 8 corner above 5; 24 a root's corner outside -512 to 512. */
 gw_point_result gw_corner_point(uint8_t level, uint64_t position, uint8_t corner, gw_root root);
 
 /* ---- leaf lists: columns root, level, position, each a pointer and a length */

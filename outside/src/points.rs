@@ -14,7 +14,7 @@ pub struct Corner {
     pub z: i64,
 }
 
-/// Where a root lies in space: its six corners, 3 to 5 above 0 to 2. Flat and folded roots are allowed.
+/// Where a root lies in space: its six corners, 0 to 2 of z = 0, 3 to 5 of z = 2^21. Flat and folded roots are allowed.
 #[derive(Clone, Copy, Debug, Default, PartialEq, Eq, Hash)]
 #[repr(C)]
 pub struct Root {

@@ -1,18 +1,21 @@
 -- What is promised of corner points, put together from the laws on the f64, on the bound and on the root's own corners. Assumes nothing.
-use mathlib.Core.Path.{_≡_, refl, sym, ap, _∙_}
+use mathlib.Core.Path.{_≡_, refl, sym, ap, _∙_, subst}
 use mathlib.Core.Bool.{Bool, true, false}
 use Prim.Native.Nat.{ℕ, zero, suc, _^_, _≤_, _<_}
 use native.Mathlib.Omega.{arith}
 use lib.Dec.{lit<, lit≤}
 use lib.IntN.{ℤ, pos, _*ℤ_}
-use Rattle.paper.specs.Outcome.{accepted}
+use Rattle.paper.specs.Outcome.{Outcome, accepted, refused}
+use Rattle.tree.proofs.RoundTrip.{at-sound}
+use Rattle.prism.proofs.Laws.{lawful}
 use Rattle.tree.specs.Words.{at}
 use Rattle.prism.specs.Elements.{prism, prismTo}
 use Rattle.prism.specs.Points as prisms
 use Rattle.corners.specs.declared.Corner.{Corner}
 use Rattle.corners.specs.declared.Root.{Root}
+use Rattle.corners.specs.declared.Point.{Point}
 use Rattle.corners.specs.CornerPoints.{corner, rootWithin, q, coordinate, pointAt, cornerPoint}
-use Rattle.corners.specs.Laws.{Exact, Promised, InsideRoot, Small, pointed}
+use Rattle.corners.specs.Laws.{Exact, Promised, InsideRoot, Small, AsDue, pointed}
 use Rattle.corners.specs.Steps.{xs, ys, zs, localOf, cornerOf}
 use Rattle.corners.proofs.Offsets.{axis-bound}
 use Rattle.corners.proofs.Roots.{near-xs, near-ys, near-zs}
@@ -20,6 +23,13 @@ use Rattle.corners.proofs.LocalCorners.{corner-inside}
 use Rattle.corners.proofs.Call.{point-accepted, point-refused-24}
 use Rattle.corners.proofs.RootCorners.{at-0, at-1, at-2, at-3, at-4, at-5, whole}
 use Rattle.corners.proofs.Exact as values
+
+accepted-same : {A : Type 0} (a b : A) → _≡_ {A = Outcome A} (accepted a) (accepted b) → a ≡ b
+accepted-same {A} a b e = ap value e
+  where
+    value : Outcome A → A
+    value (accepted x) = x
+    value (refused number at) = a
 
 exact : Exact
 exact =
@@ -38,6 +48,29 @@ small r c near inside =
       in-y = axis-bound (ys r) p (near-ys r near) at-c;
       in-z = axis-bound (zs r) p (near-zs r near) at-c;
     }
+
+-- ---- an answer is as due
+module _ (l p i : ℕ) (r : Root) (a : Point) (shallow : l ≤ 21) (below : p < 8 ^ l) (six : i < 6) (near : rootWithin r ≡ true) where
+  abbrev place : prisms.Corner
+  place = prisms.corner 21 (at prism l p) i
+
+  bound : Small r place
+  unfolding prismTo
+  bound = small r place near (corner-inside (at prism l p) i (at-sound prism (lawful 21) l p shallow below) six)
+
+  due : cornerPoint l p i r ≡ accepted a → AsDue r place a
+  due h =
+      subst (AsDue r place) (accepted-same (pointAt r place) a (sym (point-accepted l p i r shallow below six near) ∙ h))
+      (record { x-is = exact .is _ (bound .in-x); y-is = exact .is _ (bound .in-y); z-is = exact .is _ (bound .in-z) })
+
+  only-due : AsDue r place a → cornerPoint l p i r ≡ accepted a
+  only-due h =
+      point-accepted l p i r shallow below six near
+      ∙ λ k. accepted (record {
+        x = sym (exact .only _ (a .x) (bound .in-x) (h .x-is)) k;
+        y = sym (exact .only _ (a .y) (bound .in-y) (h .y-is)) k;
+        z = sym (exact .only _ (a .z) (bound .in-z) (h .z-is)) k;
+      })
 
 -- ---- the root's own corners
 -- where Q is 2^42 times a corner's number in each coordinate, the point is that corner
@@ -83,6 +116,7 @@ pub promised : Promised
 promised =
     record {
       accepts = λ l p i r a b c near. point-accepted l p i r a b c near;
+      answered = λ l p i r a shallow below six near. (due l p i r a shallow below six near, only-due l p i r a shallow below six near);
       exact = exact;
       bounded = record { inside = corner-inside; small = small };
       meaning = record { root's-own = own; shared = shared };

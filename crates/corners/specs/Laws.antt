@@ -1,15 +1,18 @@
 -- What is promised of corner points, as statements; `proofs/Promised.antt` proves them. Definitions only.
 --
 --   IsQuotient x z   x is an f64 with exactly the value z / 2^42, "zero as +0": the sign is minus only below 0
---   Exact            each coordinate has that value, and no other f64 has it: so the answer is determined
+--   Exact            a coordinate has that value, and no other f64 has it
+--   AsDue r c a      each coordinate of the point a has exactly that value at the local corner c
 --   InsideRoot c     a local corner within the root: Y <= X, none past the edge
 --   Bounded          every corner of every element lies within the root, and |Q| <= 2^51 for it in each coordinate
 --   Meaning          the corners of the root element are the root's own six; two corners with the same local (X, Y, Z) get the
 --                    same point, whatever their levels
---   Promised         all of it; what is accepted: any root with numbers from -512 to 512, "flat or folded"
+--   Promised         all of it; what is accepted: any root with numbers from -512 to 512, "flat or folded"; and an answer is accepted
+--                    exactly when it is as due, so it is determined
 --
 -- Assumes nothing.
 use mathlib.Core.Path.{_≡_}
+use mathlib.Core.Logic.{_↔_}
 use mathlib.Core.Bool.{true}
 use Prim.Native.Nat.{ℕ, _^_, _≤_, _<_}
 use lib.Dec.{T}
@@ -41,7 +44,7 @@ pub record InsideRoot (c : prisms.Corner) : Type 0 where
   pub across : c .plan .x ≤ 2 ^ 21
   pub upwards : c .height ≤ 2 ^ 21
 
--- Q of each coordinate at a local corner
+-- Q of one coordinate at a local corner
 abbrev pub qAt : (Corner → ℤ) → Root → prisms.Corner → ℤ
 qAt coordinateOf r c = q (λ j. coordinateOf (corner r j)) (c .plan .x) (c .plan .y) (c .height)
 
@@ -53,6 +56,12 @@ pub record Small (r : Root) (c : prisms.Corner) : Type 0 where
 pub record Bounded : Type 0 where
   pub inside : (e : Prism) (i : ℕ) → Sound prism e → i < 6 → InsideRoot (prisms.corner 21 e i)
   pub small : (r : Root) (c : prisms.Corner) → rootWithin r ≡ true → InsideRoot c → Small r c
+
+-- each coordinate of the point a has exactly the value Q / 2^42 at the local corner c
+pub record AsDue (r : Root) (c : prisms.Corner) (a : Point) : Type 0 where
+  pub x-is : IsQuotient (a .x) (qAt (λ v. v .x) r c)
+  pub y-is : IsQuotient (a .y) (qAt (λ v. v .y) r c)
+  pub z-is : IsQuotient (a .z) (qAt (λ v. v .z) r c)
 
 -- a corner of the root as a point
 abbrev pub pointed : Corner → Point
@@ -67,6 +76,8 @@ pub record Meaning : Type 0 where
 pub record Promised : Type 0 where
   pub accepts : (l p i : ℕ) (r : Root) → l ≤ 21 → p < 8 ^ l → i < 6 → rootWithin r ≡ true
       → cornerPoint l p i r ≡ accepted (pointAt r (prisms.corner 21 (at prism l p) i))
+  pub answered : (l p i : ℕ) (r : Root) (a : Point) → l ≤ 21 → p < 8 ^ l → i < 6 → rootWithin r ≡ true
+      → cornerPoint l p i r ≡ accepted a ↔ AsDue r (prisms.corner 21 (at prism l p) i) a
   pub exact : Exact
   pub bounded : Bounded
   pub meaning : Meaning

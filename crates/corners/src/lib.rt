@@ -14,7 +14,7 @@ pub struct Corner {
     pub z: i64,
 }
 
-// A root: 0 to 2 are the corners below, 3 to 5 those above them.
+// A root: v0 to v2 belong to z = 0, v3 to v5 to z = 2^21, each over the one three before it. In space they may lie anywhere.
 #[repr(C)]
 pub struct Root {
     pub v0: Corner,

@@ -173,7 +173,7 @@ fn shrunk(q: i64) -> f64
     requires { ⌜ natAbs q ≤ 2 ^ 51 ⌝ }
     ensures { λ r. ⌜ r ≡ coordinate q ⌝ }
 {
-    q as f64 * 0.00000000000022737367544323205947875976562
+    q as f64 * 0.000000000000227373675443232059478759765625
 }
 
 fn measured(a: Axis, p: Local) -> f64

@@ -91,7 +91,7 @@ fn sunken() -> Root {
     }
 }
 
-// From -100 to 100 along each edge, so that half way is zero.
+// From -100 to 100, so that half way is zero.
 fn centred() -> Root {
     Root {
         v0: at(-100, 100, -100),

@@ -8,7 +8,7 @@
 --   Spared f m C     where the answer's reading f is a refusal, the memory is m, what it was
 --   Numbered o       a refusal has one of the numbers 1 to 24
 --   OnElements S     every call on the elements of a shape is so
---   OnLists          and every call on lists and files
+--   OnLists          and every call on lists and files; on-points says it of corner points
 --   Three            three lent columns
 --   OfCalls          demand 1, of every call that lends memory; the others answer only, and an answer is known by its reading (`Answers`)
 --
