@@ -1,0 +1,13 @@
+pub mod Cursor
+pub mod Numbers
+pub mod Ranges
+pub mod Cutting
+pub mod Coming
+pub mod Taking
+pub mod Bounds
+pub mod Deciding
+pub mod Writing
+pub mod Decimals
+pub mod Lines
+pub mod Sharing
+pub mod Answering

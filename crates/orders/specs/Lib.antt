@@ -1,0 +1,5 @@
+pub mod Fields
+pub mod Orders
+pub mod Text
+pub mod Calls
+pub mod Steps
