@@ -11,3 +11,8 @@ pub mod Decimals
 pub mod Lines
 pub mod Sharing
 pub mod Answering
+pub mod FirstBytes
+pub mod Enough
+pub mod Divided
+pub mod Room
+pub mod Promised

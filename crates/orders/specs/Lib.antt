@@ -3,3 +3,4 @@ pub mod Orders
 pub mod Text
 pub mod Calls
 pub mod Steps
+pub mod Laws
