@@ -16,3 +16,4 @@ pub mod Enough
 pub mod Divided
 pub mod Room
 pub mod Promised
+pub mod Program
