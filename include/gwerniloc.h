@@ -272,6 +272,13 @@ uint64_t gw_list_shares(uint16_t k, uint16_t p, const uint16_t *root, size_t roo
                         const uint64_t *position, size_t position_length, const uint16_t *weight, size_t weight_length,
                         uint32_t *boundary, size_t boundary_length);
 
+/* ---- the order program */
+
+/** What the program `order` prints on an input, at the front of the buffer, and nothing behind it. The value is how many
+ *  bytes, never more than 86,212; the first 71 bytes of the input decide. A line that the program refuses is answered with
+ *  its one line of refusal. Refuses: 14 no room, place = the bytes needed. */
+gw_number_result gw_order(const uint8_t *input, size_t input_length, uint8_t *out, size_t out_length);
+
 #ifdef __cplusplus
 }
 #endif

@@ -16,10 +16,12 @@ use std::cmp::Ordering;
 mod answer;
 mod ffi;
 mod lists;
+mod orders;
 pub mod plain;
 
 pub use answer::{Answer, Refusal};
 pub use lists::{adapt, balanced, check_list, shares, uniform};
+pub use orders::{order, LONGEST_OUTPUT};
 
 /// The highest level of all three shapes.
 pub const HIGHEST_LEVEL: u8 = 21;

@@ -2,6 +2,7 @@
 // `specs/Results.antt` says how, and each contract is that of the call.
 mod line_calls;
 mod list_calls;
+mod order_calls;
 mod prism_calls;
 mod results;
 mod triangle_calls;
