@@ -330,6 +330,13 @@ gw_number_result gw_file_write(uint16_t k, const uint16_t *root, size_t root_len
 gw_grid_result gw_file_read(const uint8_t *bytes, size_t bytes_length, uint16_t *root, size_t root_length, uint8_t *level,
                             size_t level_length, uint64_t *position, size_t position_length);
 
+/* ---- the order program */
+
+/** What the program `order` prints on an input, at the front of the buffer, and nothing behind it. The value is how many
+ *  bytes, never more than 86,212; the first 71 bytes of the input decide. A line that the program refuses is answered with
+ *  its one line of refusal. Refuses: 14 no room, place = the bytes needed. */
+gw_number_result gw_order(const uint8_t *input, size_t input_length, uint8_t *out, size_t out_length);
+
 #ifdef __cplusplus
 }
 #endif

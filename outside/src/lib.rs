@@ -17,12 +17,14 @@ mod answer;
 mod ffi;
 mod files;
 mod lists;
+mod orders;
 pub mod plain;
 mod points;
 
 pub use answer::{Answer, Refusal};
 pub use files::{read_file, write_file, Size};
 pub use lists::{adapt, balanced, check_list, shares, uniform};
+pub use orders::{order, LONGEST_OUTPUT};
 pub use points::{corner_point, Corner, Point, Root};
 
 /// The highest level of all three shapes.

@@ -3,6 +3,7 @@
 mod file_calls;
 mod line_calls;
 mod list_calls;
+mod order_calls;
 mod point_calls;
 mod prism_calls;
 mod results;

@@ -1,0 +1,12 @@
+// The order program's call.
+use crate::NumberResult;
+use crate::results;
+ghost use Rattle.interface.specs.Printing.{PrintedResult};
+
+// What the order program prints on the input, at the front of the buffer. The value is how many bytes.
+#[no_mangle]
+pub extern "C" fn gw_order(input: &[u8], out: &mut [u8]) -> NumberResult
+    ensures { λ r. ⌜ PrintedResult r (now (input .entry)) (now (out .entry)) (now (out .exit)) ⌝ }
+{
+    results::of_number(orders::answer(input, out))
+}

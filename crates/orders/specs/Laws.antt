@@ -1,0 +1,34 @@
+-- What is promised of the order program, as statements. Definitions only.
+--
+--   Divided f    the lines of an accepted order f are those of the list's own call for shares: on the columns of the uniform start, with all
+--                weights 1, that call passes, and its boundaries are the thesis's formula 27
+--   Promised     the first 71 bytes decide the output; an accepted order is divided so; and how long the output may be: 196 bytes for the
+--                first line, and 21 for each of 4,096 shares
+--
+-- Assumes nothing.
+use mathlib.Core.Path.{_≡_}
+use mathlib.Core.List.{List}
+use Prim.Native.Nat.{ℕ, _+_, _*_, _/_, _≤_}
+use lib.ListN.{length, take}
+use Rattle.paper.specs.Outcome.{accepted, passed}
+use Rattle.leaves.specs.Leaves.{Leaf, uniform, rootsOf, levelsOf, positionsOf}
+use Rattle.shares.specs.Shares.{boundary}
+use Rattle.shares.specs.Calls.{shares}
+use Rattle.orders.specs.declared.Form.{Form}
+use Rattle.orders.specs.Orders.{decided}
+use Rattle.orders.specs.Text.{weights}
+use Rattle.orders.specs.Calls.{output}
+
+-- the uniform start that is ordered
+abbrev pub started : Form → List Leaf
+started f = uniform 8 21 (f .roots) (f .level)
+
+pub record Divided (f : Form) : Type 0 where
+  pub leaf-count : f .leaves ≡ length (started f)
+  pub call-passes : shares 8 21 (f .roots) (f .shares) (rootsOf (started f)) (levelsOf (started f)) (positionsOf (started f)) (weights f) (f .shares + 1) ≡ passed
+  pub formula-27 : (s : ℕ) → s ≤ f .shares → boundary (f .shares) (weights f) s ≡ s * f .leaves / f .shares
+
+pub record Promised : Type 0 where
+  pub first-bytes : (s : List ℕ) → output (take 71 s) ≡ output s
+  pub divided : (s : List ℕ) (f : Form) → decided s ≡ accepted f → Divided f
+  pub room : (s : List ℕ) → length (output s) ≤ 86212
