@@ -11,7 +11,7 @@ use Rattle.gridfile.specs.Readings.{gridOf}
 use Rattle.promises.specs.Demand1.{Three, OfCalls}
 use Rattle.promises.specs.Demand2.{Determined}
 use Rattle.promises.proofs.Demand2.{of-elements}
-use Rattle.promises.proofs.Numbered.{on-lists, on-points}
+use Rattle.promises.proofs.Numbered.{on-lists, on-points, order-said, printed-said}
 use Rattle.promises.proofs.Faults.{on-lines, on-triangles, on-prisms}
 
 three-same : (m m′ : Three) → m .roots ≡ m′ .roots → m .levels ≡ m′ .levels → m .positions ≡ m′ .positions → m ≡ m′
@@ -79,6 +79,11 @@ of-calls =
         λ r s a b f g. let same = one-answer gridOf grids _ r s (f .answer) (g .answer) in (same, columns-decided gridOf grids _ m r s a b same (f .columns) (g .columns)),
         λ r a number at f e. columns-spared gridOf grids _ m r a number at (f .columns) e,
       );
+      ordering = λ input m. (
+        λ r s a b f g. let same = one-answer valueOf numbers _ r s (f .answer) (g .answer) in (same, buffer-decided valueOf numbers _ m r s a b same (f .written) (g .written)),
+        λ r a number at f e. buffer-spared valueOf numbers _ m r a number at (f .written) e,
+      );
+      on-orders = λ input room. (order-said input, printed-said input room);
     }
   where
     numbers : Determined valueOf

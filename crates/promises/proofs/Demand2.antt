@@ -57,6 +57,7 @@ use Rattle.gridfile.specs.declared.GridAnswer.the-variants as grid-answer
 use Rattle.gridfile.proofs.Coded.{codec}
 use Rattle.gridfile.proofs.OneFile.{one-file, round-trip}
 use Rattle.gridfile.proofs.InMemory.{in-memory}
+use Rattle.orders.proofs.Promised as orders-laws
 use Rattle.corners.specs.CornerPoints.{pointOf}
 use Rattle.corners.specs.declared.PointAnswer.{PointAnswer}
 use Rattle.corners.specs.declared.PointAnswer.the-variants as point-answer
@@ -64,7 +65,7 @@ use Rattle.corners.proofs.Promised.{promised}
 use Rattle.line.specs.Elements as lines
 use Rattle.triangle.specs.Elements as triangles
 use Rattle.prism.specs.Elements as prisms
-use Rattle.promises.specs.Demand2.{Elements, Determined, OfElements, OfLists, OfFiles, OfPoints}
+use Rattle.promises.specs.Demand2.{Elements, Determined, OfElements, OfLists, OfFiles, OfOrders, OfPoints}
 
 elements : {E P : Type 0} (S : Shape E) (index : E → ℕ) (points : E → ℕ → List P) (faceAcross : ℕ → ℕ)
     → Lawful S → Ranked S index → Faces S points faceAcross → Elements S index points faceAcross
@@ -201,3 +202,6 @@ of-files = record { numbers = codec; one-file = one-file 8 21 (omega arith) (ome
 
 pub of-points : OfPoints
 of-points = record { promised = promised }
+
+pub of-orders : OfOrders
+of-orders = record { promised = orders-laws.promised }

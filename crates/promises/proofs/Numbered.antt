@@ -7,7 +7,7 @@ use native.Mathlib.Omega.{arith}
 use lib.Dec.{leb, ltb, eqb}
 use lib.ListN.{length, getD}
 use borrow.Author.Tests.{not-true, eqb-false, leb-true}
-use Rattle.paper.specs.Outcome.{Outcome, accepted, refused, passed, refuse-when-at, fault-when, mapped, scan}
+use Rattle.paper.specs.Outcome.{Outcome, accepted, refused, passed, refuse-when-at, fault-when, mapped, scan, rows}
 use Rattle.paper.proofs.Scan.{never}
 use Rattle.tree.specs.Shape.{Shape}
 use Rattle.leaves.specs.Leaves.{Leaf, leaves, Place, place, endOf}
@@ -21,6 +21,9 @@ use Rattle.gridfile.specs.Numbers.{read, byteAt, numberAt}
 use Rattle.gridfile.specs.Reading.{and-then, opens, head, afterRuns, afterRoots, headAt, fits, leavesOf, after, runRead, afterCount, afterLevel, runAt, runsAt, headed, gridAt, fitted}
 use Rattle.corners.specs.declared.Root.{Root}
 use Rattle.corners.specs.CornerPoints.{rootWithin, cornerPoint}
+use Rattle.orders.specs.Fields.{fields, ended, isNumber, given, number}
+use Rattle.orders.specs.Calls.{output, answered}
+use Rattle.orders.specs.Orders as orders
 use Rattle.tree.specs.Words
 use Rattle.tree.specs.Calls as calls
 use Rattle.leaves.specs.Calls as lists
@@ -200,3 +203,23 @@ on-points l p i r =
     (when (leb 6 i) 8 0 refl
     (when (not (rootWithin r)) 24 0 refl
     (fine _))))
+
+-- ---- orders
+field-few : (fs : List (List ℕ)) (i : ℕ) → orders.fault fs i ≤ 24
+field-few fs i =
+    let v = number fs i in
+    fault-few (leb (length fs) (i - 1)) 23 _ (omega arith)
+    (fault-few (not (isNumber (given fs i))) 23 _ (omega arith)
+    (fault-few (eqb i 4 && outOfRange v) 17 _ (omega arith)
+    (fault-few (eqb i 5 && ltb 21 v) 1 _ (omega arith)
+    (fault-few (eqb i 6 && outOfRange v) 17 _ (omega arith)
+    (fault-few (eqb i 7 && ltb (number fs 5) v) 23 _ (omega arith)
+    (fault-few (eqb i 7 && ltb limit (number fs 4 * 8 ^ v)) 15 0 (omega arith) (omega arith)))))))
+
+pub order-said : (input : List ℕ) → Numbered (orders.decided input)
+order-said input =
+    in-turn (orders.fault (fields input)) (field-few (fields input)) 1 (rows (λ i. i) 1 7) _
+    (when (not (eqb (length (fields input)) 7 && ended input)) 23 8 refl (fine (orders.orderOf (fields input))))
+
+pub printed-said : (input : List ℕ) (room : ℕ) → Numbered (answered input room)
+printed-said input room = when (ltb room (length (output input))) 14 (length (output input)) refl (fine (length (output input)))

@@ -8,7 +8,7 @@
 --   Spared f m C     where the answer's reading f is a refusal, the memory is m, what it was
 --   Numbered o       a refusal has one of the numbers 1 to 24
 --   OnElements S     every call on the elements of a shape is so
---   OnLists          and every call on lists and files; on-points says it of corner points
+--   OnLists          and every call on lists and files; on-points and on-orders say it of corner points and orders
 --   Three            three lent columns
 --   OfCalls          demand 1, of every call that lends memory; the others answer only, and an answer is known by its reading (`Answers`)
 --
@@ -29,6 +29,8 @@ use Rattle.gridfile.specs.Calls.{FileWritten, FileRead}
 use Rattle.gridfile.specs.declared.GridAnswer.{GridAnswer}
 use Rattle.corners.specs.declared.Root.{Root}
 use Rattle.corners.specs.CornerPoints.{cornerPoint}
+use Rattle.orders.specs.Orders.{decided}
+use Rattle.orders.specs.Calls.{answered, Answered}
 use Rattle.tree.specs.Shape.{Shape}
 use Rattle.line.specs.Elements.{line}
 use Rattle.triangle.specs.Elements.{triangle}
@@ -70,6 +72,9 @@ Writes k vs m r m′ = FileWritten k r (vs .roots) (vs .levels) (vs .positions) 
 abbrev pub Reads : List ℕ → Three → GridAnswer → Three → Type 0
 Reads bytes m r m′ = FileRead bytes r (m .roots) (m .levels) (m .positions) (m′ .roots) (m′ .levels) (m′ .positions)
 
+abbrev pub Prints : List ℕ → List ℕ → NumberAnswer → List ℕ → Type 0
+Prints input m r m′ = Answered r input m m′
+
 -- ---- the refusals
 pub record Numbered {A : Type 0} (o : Outcome A) : Type 0 where
   pub said : (number at : ℕ) → o ≡ refused number at → (1 ≤ number) × (number ≤ 24)
@@ -101,9 +106,11 @@ pub record OfCalls : Type 0 where
   pub on-triangles : OnElements triangle
   pub on-prisms : OnElements prism
   pub on-lists : OnLists
+  pub on-orders : (input : List ℕ) (room : ℕ) → Numbered (decided input) × Numbered (answered input room)
   pub on-points : (l p i : ℕ) (r : Root) → Numbered (cornerPoint l p i r)
   pub uniform : (k level : ℕ) (m : Three) → Decided (Starts k level m) × Spared valueOf m (Starts k level m)
   pub adaption : (k : ℕ) (vs : Three) (marks : List ℕ) (m : Three) → Decided (Adapts k vs marks m) × Spared valueOf m (Adapts k vs marks m)
   pub shares : (k p : ℕ) (vs : Three) (weights m : List ℕ) → Decided (Shares k p vs weights m) × Spared passOf m (Shares k p vs weights m)
   pub writing : (k : ℕ) (vs : Three) (m : List ℕ) → Decided (Writes k vs m) × Spared valueOf m (Writes k vs m)
   pub reading : (bytes : List ℕ) (m : Three) → Decided (Reads bytes m) × Spared gridOf m (Reads bytes m)
+  pub ordering : (input m : List ℕ) → Decided (Prints input m) × Spared valueOf m (Prints input m)

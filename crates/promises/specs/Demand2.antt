@@ -7,6 +7,7 @@
 --   Answers       of every enum that a public call answers, and of a file's number
 --   OfLists       demand 2, of leaf lists: the list check is exact, each smallest cell lies in one leaf, a leaf's relatives are the
 --                 prism's, adaption is the paper's one pass, boundaries are the paper's, balanced is the paper's
+--   OfOrders      of the order program: the first 71 bytes decide, its shares are the list's own, its output has room
 --   OfFiles       demand 2, of grid files: "a list has one file and a file one list", and writing and reading undo each other
 --   OfPoints      demand 2, of corner points: the exact value and no other, the bound, the root's own corners, one point for one local corner
 --
@@ -29,6 +30,7 @@ use Rattle.leaves.specs.Laws as leaves
 use Rattle.adaption.specs.Laws as adaption
 use Rattle.shares.specs.Laws as shares
 use Rattle.corners.specs.Laws as corners
+use Rattle.orders.specs.Laws as orders
 use Rattle.line.specs.Elements as lines
 use Rattle.triangle.specs.Elements as triangles
 use Rattle.prism.specs.Elements as prisms
@@ -84,3 +86,6 @@ pub record OfFiles : Type 0 where
 
 pub record OfPoints : Type 0 where
   pub promised : corners.Promised
+
+pub record OfOrders : Type 0 where
+  pub promised : orders.Promised
