@@ -42,13 +42,13 @@ module _ (s : List ℕ) (f : Form) (is : decided s ≡ accepted f) where
   parts : (scan (fault (fields s)) 1 (rows (λ i. i) 1 7) passed ≡ passed) × (lastly s ≡ accepted f)
   parts = scan-accepted (fault (fields s)) 1 (rows (λ i. i) 1 7) (lastly s) f is
 
-  clean : (j : ℕ) → 1 ≤ j → j < 8 → fault (fields s) j ≡ 0
-  clean j low high =
+  pub form-clean : (j : ℕ) → 1 ≤ j → j < 8 → fault (fields s) j ≡ 0
+  form-clean j low high =
       let same : 1 + (j - 1) ≡ j = omega arith in
       subst (λ (k : ℕ). fault (fields s) k ≡ 0) same (scan-all (fault (fields s)) (λ i. i) 1 7 (j - 1) (parts .0) (omega arith))
 
   pub form-range : InRange (fields s)
-  form-range = in-range (fields s) clean
+  form-range = in-range (fields s) form-clean
 
   pub form-is : orderOf (fields s) ≡ f
   form-is = let same = accepted-of (not (closed s 7)) 23 8 (accepted (orderOf (fields s))) f (parts .1) .1 in cc

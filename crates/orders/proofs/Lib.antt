@@ -17,3 +17,5 @@ pub mod Divided
 pub mod Room
 pub mod Promised
 pub mod Program
+pub mod Repeating
+pub mod Controls

@@ -3,14 +3,17 @@ use mathlib.Core.Path.{_≡_, refl, ap, subst}
 use mathlib.Core.List.{List}
 use Prim.Native.Nat.{ℕ, _≤_, _<_}
 use native.Mathlib.Nat.{le-trans}
+use native.Mathlib.Omega.{arith}
 use Rattle.paper.specs.Outcome.{accepted}
 use Rattle.orders.specs.declared.Form.{Form}
+use Rattle.orders.specs.Fields.{fields}
 use Rattle.orders.specs.Orders.{decided}
 use Rattle.orders.specs.Text.{printed}
 use Rattle.orders.specs.Laws.{Divided, Promised}
-use Rattle.orders.proofs.Answering.{form-range, form-is, form-sound, decided-sound}
+use Rattle.orders.proofs.Answering.{form-clean, form-range, form-is, form-sound, decided-sound}
 use Rattle.orders.proofs.Enough.{decided-71}
 use Rattle.orders.proofs.Divided.{form-divided}
+use Rattle.orders.proofs.Repeating.{field-repeated}
 use Rattle.orders.proofs.Room.{printed-few}
 
 order-divided : (s : List ℕ) (f : Form) → decided s ≡ accepted f → Divided f
@@ -24,6 +27,8 @@ pub promised : Promised
 promised =
     record {
       first-bytes = λ s. ap printed (decided-71 s);
+      ordered = form-is;
+      repeats = λ s f i is low high. field-repeated (fields s) i high (form-clean s f is i low (omega arith));
       divided = order-divided;
       room = λ s. printed-few (decided s) (decided-sound s (decided s) refl);
     }

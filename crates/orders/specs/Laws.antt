@@ -2,21 +2,23 @@
 --
 --   Divided f    the lines of an accepted order f are those of the list's own call for shares: on the columns of the uniform start, with all
 --                weights 1, that call passes, and its boundaries are the thesis's formula 27
---   Promised     the first 71 bytes decide the output; an accepted order is divided so; and how long the output may be: 196 bytes for the
+--   Promised     the first 71 bytes decide the output; an accepted order has the numbers of its fields, and those printed are the fields
+--                themselves, byte for byte; it is divided so; and how long the output may be: 196 bytes for the
 --                first line, and 21 for each of 4,096 shares
 --
 -- Assumes nothing.
 use mathlib.Core.Path.{_≡_}
-use mathlib.Core.List.{List}
-use Prim.Native.Nat.{ℕ, _+_, _*_, _/_, _≤_}
-use lib.ListN.{length, take}
+use mathlib.Core.List.{List, []}
+use Prim.Native.Nat.{ℕ, _+_, _-_, _*_, _/_, _≤_}
+use lib.ListN.{length, getD, take}
 use Rattle.paper.specs.Outcome.{accepted, passed}
 use Rattle.leaves.specs.Leaves.{Leaf, uniform, rootsOf, levelsOf, positionsOf}
 use Rattle.shares.specs.Shares.{boundary}
 use Rattle.shares.specs.Calls.{shares}
 use Rattle.orders.specs.declared.Form.{Form}
-use Rattle.orders.specs.Orders.{decided}
-use Rattle.orders.specs.Text.{weights}
+use Rattle.orders.specs.Fields.{fields, number}
+use Rattle.orders.specs.Orders.{orderOf, decided}
+use Rattle.orders.specs.Text.{decimal, weights}
 use Rattle.orders.specs.Calls.{output}
 
 -- the uniform start that is ordered
@@ -30,5 +32,7 @@ pub record Divided (f : Form) : Type 0 where
 
 pub record Promised : Type 0 where
   pub first-bytes : (s : List ℕ) → output (take 71 s) ≡ output s
+  pub ordered : (s : List ℕ) (f : Form) → decided s ≡ accepted f → orderOf (fields s) ≡ f
+  pub repeats : (s : List ℕ) (f : Form) (i : ℕ) → decided s ≡ accepted f → 1 ≤ i → i ≤ 6 → decimal (number (fields s) i) ≡ getD (fields s) (i - 1) []
   pub divided : (s : List ℕ) (f : Form) → decided s ≡ accepted f → Divided f
   pub room : (s : List ℕ) → length (output s) ≤ 86212
