@@ -13,7 +13,7 @@ pub mod Sharing
 pub mod Answering
 pub mod FirstBytes
 pub mod Enough
-pub mod Divided
+pub mod SameShares
 pub mod Room
 pub mod Promised
 pub mod Program
