@@ -3,9 +3,11 @@ pub mod Numbers
 pub mod Ranges
 pub mod Cutting
 pub mod Coming
+pub mod Onward
 pub mod Taking
 pub mod Bounds
 pub mod Deciding
+pub mod Whole
 pub mod Writing
 pub mod Decimals
 pub mod Lines
@@ -13,7 +15,7 @@ pub mod Sharing
 pub mod Answering
 pub mod FirstBytes
 pub mod Enough
-pub mod Divided
+pub mod SameShares
 pub mod Room
 pub mod Promised
 pub mod Program

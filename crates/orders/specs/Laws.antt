@@ -1,10 +1,10 @@
 -- What is promised of the order program, as statements. Definitions only.
 --
---   Divided f    the lines of an accepted order f are those of the list's own call for shares: on the columns of the uniform start, with all
---                weights 1, that call passes, and its boundaries are the thesis's formula 27
---   Promised     the first 71 bytes decide the output; an accepted order has the numbers of its fields, and those printed are the fields
---                themselves, byte for byte; it is divided so; and how long the output may be: 196 bytes for the
---                first line, and 21 for each of 4,096 shares
+--   SameShares f   the lines of an accepted order f are those of the list's own call for shares: on the columns of the uniform start, with all
+--                  weights 1, that call passes, and its boundaries are the thesis's formula 27
+--   Promised       the first 71 bytes decide the output; an accepted order has the numbers of its fields, and those printed are the fields
+--                  themselves, byte for byte; its shares are the list's; and how long the output may be: 196 bytes for the first line, and
+--                  21 for each of 4,096 shares
 --
 -- Assumes nothing.
 use mathlib.Core.Path.{_≡_}
@@ -25,7 +25,7 @@ use Rattle.orders.specs.Calls.{output}
 abbrev pub started : Form → List Leaf
 started f = uniform 8 21 (f .roots) (f .level)
 
-pub record Divided (f : Form) : Type 0 where
+pub record SameShares (f : Form) : Type 0 where
   pub leaf-count : f .leaves ≡ length (started f)
   pub call-passes : shares 8 21 (f .roots) (f .shares) (rootsOf (started f)) (levelsOf (started f)) (positionsOf (started f)) (weights f) (f .shares + 1) ≡ passed
   pub formula-27 : (s : ℕ) → s ≤ f .shares → boundary (f .shares) (weights f) s ≡ s * f .leaves / f .shares
@@ -34,5 +34,5 @@ pub record Promised : Type 0 where
   pub first-bytes : (s : List ℕ) → output (take 71 s) ≡ output s
   pub ordered : (s : List ℕ) (f : Form) → decided s ≡ accepted f → orderOf (fields s) ≡ f
   pub repeats : (s : List ℕ) (f : Form) (i : ℕ) → decided s ≡ accepted f → 1 ≤ i → i ≤ 6 → decimal (number (fields s) i) ≡ getD (fields s) (i - 1) []
-  pub divided : (s : List ℕ) (f : Form) → decided s ≡ accepted f → Divided f
+  pub same-shares : (s : List ℕ) (f : Form) → decided s ≡ accepted f → SameShares f
   pub room : (s : List ℕ) → length (output s) ≤ 86212

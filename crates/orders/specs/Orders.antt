@@ -5,6 +5,7 @@
 --   formFault         23 where field i is missing or is no number, else what else it has
 --   fault fs i        the refusal of field i
 --   orderOf fs        the numbers of the first line, in its order
+--   inOrder fs whole  "fields left to right": the first of the seven with a refusal; then field 8, unless the line is whole, with no eighth field
 --   decided s         what the input s asks for: its order, or its refusal with the field as place
 --   formOf            the outcome that a FormAnswer stands for
 --

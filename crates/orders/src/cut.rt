@@ -5,7 +5,7 @@ ghost use lib.ListN.{length, drop};
 ghost use Rattle.orders.specs.Steps.{piece, next, closes};
 
 // Where the field that begins at `at` ends: at the next semicolon or LF, or where the input ends.
-pub fn end(input: &[u8], at: usize) -> usize
+pub(crate) fn end(input: &[u8], at: usize) -> usize
     requires { ⌜ at ≤ length (now input) ⌝ }
     ensures { λ r. ⌜ r ≡ at + length (piece (drop at (now (input .entry)))) ⌝ }
 {
@@ -23,7 +23,7 @@ pub fn end(input: &[u8], at: usize) -> usize
 }
 
 // Where the field after the one that ended at `end` begins; past the input where there is none.
-pub fn after(input: &[u8], end: usize) -> usize
+pub(crate) fn after(input: &[u8], end: usize) -> usize
     requires { ⌜ end ≤ length (now input) ⌝ }
     ensures { λ r. ⌜ r ≡ next (now (input .entry)) end ⌝ }
 {
@@ -37,7 +37,7 @@ pub fn after(input: &[u8], end: usize) -> usize
 }
 
 // Whether the field that ended at `end` is followed by LF, and the LF by nothing.
-pub fn closing(input: &[u8], end: usize) -> bool
+pub(crate) fn closing(input: &[u8], end: usize) -> bool
     requires { ⌜ end ≤ length (now input) ⌝ }
     ensures { λ r. ⌜ r ≡ closes (now (input .entry)) end ⌝ }
 {

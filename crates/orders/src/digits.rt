@@ -60,7 +60,7 @@ fn number(f: &[u8]) -> NumberAnswer
 }
 
 // The number in field i: an empty field seven means 2. Refused: 23.
-pub fn meant(i: usize, f: &[u8]) -> NumberAnswer
+pub(crate) fn meant(i: usize, f: &[u8]) -> NumberAnswer
     ensures { λ r. ⌜ valueOf r ≡ numbered (asMeant i (now (f .entry))) ⌝ }
 {
     if i != 7 {

@@ -120,7 +120,7 @@ fn refusal(out: &mut [u8], fault: u8, field: u64) -> usize
 }
 
 // All that is printed.
-pub fn answer(asked: FormAnswer, out: &mut [u8]) -> usize
+pub(crate) fn answer(asked: FormAnswer, out: &mut [u8]) -> usize
     requires { ⌜ Sound (formOf asked) ⌝ }
     ensures { λ r. ⌜ Put (printed (formOf asked)) 0 (now (out .entry)) (now (out .exit)) r ⌝ }
 {

@@ -5,7 +5,8 @@ use native.Mathlib.Omega.{arith}
 use lib.ListN.{set}
 use borrow.Author.Needs.{needs}
 use borrow.Author.Tests.{not-true, not-false}
-use Rattle.orders.proofs.Deciding.{Reading, reading-start, reading-refused, found-within, reading-step, reading-open, level-small, reading-form}
+use Rattle.orders.proofs.Deciding.{Reading, reading-start, reading-refused, found-within, reading-step}
+use Rattle.orders.proofs.Whole.{reading-open, level-small, reading-form}
 use Rattle.orders.proofs.line.read.Statement.{statement}
 use Rattle.orders.proofs.line.read.Tie as tie
 

@@ -22,7 +22,7 @@ use Rattle.shares.specs.Calls.{weightFault, shares}
 use Rattle.orders.specs.declared.Form.{Form}
 use Rattle.orders.specs.Text.{weights}
 use Rattle.orders.specs.Steps.{SoundForm}
-use Rattle.orders.specs.Laws.{started, Divided}
+use Rattle.orders.specs.Laws.{started, SameShares}
 use Rattle.orders.proofs.Sharing.{boundary-first}
 
 -- ---- a list is the leaves of its columns
@@ -70,8 +70,8 @@ module _ (f : Form) (sound : SoundForm f) (some : 0 < f .roots) (few : f .roots 
         valid = subst (Valid 8 21 (f .roots)) (sym (leaves-columns (started f))) covers;
       }
 
-  pub form-divided : Divided f
-  form-divided =
+  pub form-same-shares : SameShares f
+  form-same-shares =
       let u = started f in
       let both = in-range-test (f .shares) (sound .some-share) (sound .few-shares) in
       let fitting : eqb (length (rootsOf u)) (length (weights f)) ≡ true =
