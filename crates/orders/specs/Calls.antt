@@ -4,6 +4,7 @@
 --   answered    how many bytes that is; 14 where the buffer has not so many: "no room; place = .. bytes needed"
 --   Answered    the contract of the call: its answer, and the output at the front of the lent buffer, or what it held
 --
+-- A refused order is an answered call: its output is the line of refusal. The call itself refuses only 14.
 -- Assumes nothing.
 use mathlib.Core.Path.{_≡_}
 use mathlib.Core.List.{List}

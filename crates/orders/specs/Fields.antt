@@ -5,7 +5,8 @@
 --   isNumber f     "A field is 1 to 9 digits without a leading zero, except 0 itself"
 --   value f        the number that the digits say
 --   seventh f      "Field seven may be empty and then means 2"
---   given fs i     what stands in field i, counted from 1 (none where it is missing); an empty field seven as what it means
+--   given fs i     what stands in field i, counted from 1, an empty field seven as what it means; a missing field reads like an empty one
+--                  (`fault` looks for that first)
 --   number fs i    the number in field i
 --
 -- Assumes nothing.

@@ -1,10 +1,11 @@
 -- What is promised of the order program, as statements. Definitions only.
 --
---   SameShares f   the lines of an accepted order f are those of the list's own call for shares: on the columns of the uniform start, with all
---                  weights 1, that call passes, and its boundaries are the thesis's formula 27
---   Promised       the first 71 bytes decide the output; an accepted order has the numbers of its fields, and those printed are the fields
---                  themselves, byte for byte; its shares are the list's; and how long the output may be: 196 bytes for the first line, and
---                  21 for each of 4,096 shares
+--   SameShares f   `printed` prints the boundaries of all weights 1; on the columns of the uniform start the list's own call for shares
+--                  passes with these weights, and so writes the same boundaries; they are the thesis's formula 27
+--   Promised       the first 71 bytes decide the output, by the fields' form alone: seven fields of nine digits, six semicolons, LF, and one
+--                  byte more; an accepted order has the numbers of its fields, and those printed are the fields
+--                  themselves, byte for byte; its shares are the list's; and no output is longer than 86,212 bytes: at most 28 for each of
+--                  the first line's seven entries, and 21 for each of 4,096 shares (a bound, not reached)
 --
 -- Assumes nothing.
 use mathlib.Core.Path.{_≡_}

@@ -28,7 +28,7 @@ use Rattle.orders.specs.Fields.{lf}
 abbrev pub blank : ℕ
 blank = 32
 
--- in at most k digits
+-- the last k digits at most; 20 are enough for every number of 64 bits
 unfoldable pub decimalIn : ℕ → ℕ → List ℕ
 decimalIn zero n = []
 decimalIn (suc k) n = cond (ltb n 10) ((48 + n) ∷ []) (decimalIn k (n / 10) ++ ((48 + n % 10) ∷ []))

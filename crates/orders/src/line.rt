@@ -98,7 +98,7 @@ fn take(input: &[u8], at: usize, i: usize, k: u64, highest: u64) -> Found
     }
 }
 
-// What the input asks for. Refused: the first field with a fault; 23 at field 8 where more or less than one LF follows the seventh.
+// What the input asks for. Refused: the first field with a fault; 23 at field 8 where anything but one last LF follows the seventh.
 pub(crate) fn read(input: &[u8]) -> FormAnswer
     ensures { λ r. ⌜ formOf r ≡ decided (now (input .entry)) ⌝ }
 {

@@ -1,4 +1,4 @@
--- The order's second demand, for elements, leaf lists, grid files and corner points: "Positions are those of the prism index .. An element's position is its rank among all elements
+-- The order's second demand, for elements, leaf lists, grid files, corner points and orders: "Positions are those of the prism index .. An element's position is its rank among all elements
 -- of its level in that order, and each position below eight to the power of the level gives back its element." Definitions only.
 --
 --   Elements      what is promised of one shape, with its index and its faces
