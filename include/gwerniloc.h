@@ -102,10 +102,10 @@ typedef struct gw_number_result {
 } gw_number_result;
 
 /* The value is -1, 0 or 1: e comes before f, is f, comes after f. */
-typedef struct gw_order_result {
+typedef struct gw_comparison {
     uint64_t refusal;
     int32_t value;
-} gw_order_result;
+} gw_comparison;
 
 /* A grid that was read: its roots and the number of its leaves. */
 typedef struct gw_grid_result {
@@ -149,7 +149,7 @@ gw_line_result gw_line_neighbour(gw_line e, uint8_t face);
 
 /** The order of two: by the positions of their first descendants at level 21, then by level.
  *  Refuses, first e with place 0, then f with place 1: 1 level, 2 anchor. */
-gw_order_result gw_line_compare(gw_line e, gw_line f);
+gw_comparison gw_line_compare(gw_line e, gw_line f);
 
 /** 1 if the columns hold the 2 children of one parent, in order, else 0. Any other count, or none, is 0.
  *  Refuses: 11 unequal columns; then each in turn, place = its index: 1 level, 2 anchor. */
@@ -191,7 +191,7 @@ gw_triangle_result gw_triangle_neighbour(gw_triangle e, uint8_t face);
 
 /** The order of two: by the positions of their first descendants at level 21, then by level.
  *  Refuses, first e with place 0, then f with place 1: 1 level, 2 anchor, 3 type, 4 outside. */
-gw_order_result gw_triangle_compare(gw_triangle e, gw_triangle f);
+gw_comparison gw_triangle_compare(gw_triangle e, gw_triangle f);
 
 /** 1 if the columns hold the 4 children of one parent, in order, else 0. Any other count, or none, is 0.
  *  Refuses: 11 unequal columns; then each in turn, place = its index: 1 level, 2 anchor, 3 type, 4 outside. */
@@ -234,7 +234,7 @@ gw_prism_result gw_prism_neighbour(gw_prism e, uint8_t face);
 
 /** The order of two: by the positions of their first descendants at level 21, then by level.
  *  Refuses, first e with place 0, then f with place 1: 1 level, 2 anchor, 3 type, 4 outside. */
-gw_order_result gw_prism_compare(gw_prism e, gw_prism f);
+gw_comparison gw_prism_compare(gw_prism e, gw_prism f);
 
 /** 1 if the columns hold the 8 children of one parent, in order, else 0. Any other count, or none, is 0.
  *  Refuses: 11 unequal columns; then each in turn, place = its index: 1 level, 2 anchor, 3 type, 4 outside. */

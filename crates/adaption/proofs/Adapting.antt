@@ -9,7 +9,7 @@ use lib.ListN.{length}
 use borrow.Author.Tests.{lt-ltb, le-ltb, eq-eqb, ne-eqb}
 use Rattle.paper.specs.Outcome.{Outcome, accepted, refused, passed}
 use Rattle.leaves.specs.Leaves.{Leaf, leaves}
-use Rattle.leaves.specs.Laws.{at, ValidList}
+use Rattle.leaves.specs.Laws.{nth, ValidList}
 use Rattle.leaves.specs.Calls.{outOfRange, equalColumns, listed}
 use Rattle.leaves.proofs.Listed.{at-leaves, leaves-length, columns-sound, listed-passed, listed-refused}
 use Rattle.adaption.specs.Adaption.{mark, adapted}
@@ -70,7 +70,7 @@ module _ (k : ℕ) (rs ls ps ms nr nl np : List ℕ) where
                 known : (i : ℕ) → i < length (leaves rs ls ps) → mark ms i ≤ 2
                 known i inside = mark-known 21 ls ms marks-right i (omega (arith, long, leaves-length rs ls ps))
 
-                above : (i : ℕ) → i < length (leaves rs ls ps) → mark ms i ≡ 1 → at (leaves rs ls ps) i .level < 21
+                above : (i : ℕ) → i < length (leaves rs ls ps) → mark ms i ≡ 1 → nth (leaves rs ls ps) i .level < 21
                 above i inside refined =
                     let within : i < length rs = omega (arith, leaves-length rs ls ps) in
                     let level = ap (λ (v : Leaf). v .level) (at-leaves rs ls ps i within) in

@@ -10,7 +10,7 @@ use native.Mathlib.Omega.{arith}
 use lib.ListN.{length, getD}
 use borrow.Author.Tests.{eq-eqb, ne-eqb}
 use Rattle.leaves.specs.Leaves.{Leaf, leaves}
-use Rattle.leaves.specs.Laws.{at}
+use Rattle.leaves.specs.Laws.{nth}
 use Rattle.leaves.proofs.Listed.{at-leaves, leaves-length}
 use Rattle.adaption.specs.Adaption.{mark, merging}
 use Rattle.adaption.specs.Pass.{turn, Ready}
@@ -38,10 +38,10 @@ module _ (ls ms : List ℕ) (i : ℕ) where
       one-mark s less (no earlier) = so-far .marks s (omega arith)
 
 module _ (n : ℕ) (positive : 0 < n) (rs ls ps ms : List ℕ) where
-  pub level-at : (j : ℕ) → j < length rs → at (leaves rs ls ps) j .level ≡ getD ls j 0
+  pub level-at : (j : ℕ) → j < length rs → nth (leaves rs ls ps) j .level ≡ getD ls j 0
   level-at j inside = ap (λ (v : Leaf). v .level) (at-leaves rs ls ps j inside)
 
-  pub position-at : (j : ℕ) → j < length rs → at (leaves rs ls ps) j .position ≡ getD ps j 0
+  pub position-at : (j : ℕ) → j < length rs → nth (leaves rs ls ps) j .position ≡ getD ps j 0
   position-at j inside = ap (λ (v : Leaf). v .position) (at-leaves rs ls ps j inside)
 
   module _ (i : ℕ) (inside : i < length rs) where
@@ -57,7 +57,7 @@ module _ (n : ℕ) (positive : 0 < n) (rs ls ps ms : List ℕ) where
     pub none-of-younger : (getD ps i 0 % n ≡ 0 → ⊥) → never
     none-of-younger younger =
         by-merging (λ m. younger (ap (λ (p : ℕ). p % n) (sym (position-at i inside))
-        ∙ ap (λ (k : ℕ). at (leaves rs ls ps) k .position % n) (sym (add-zero i)) ∙ number-in n (leaves rs ls ps) ms i 0 m positive))
+        ∙ ap (λ (k : ℕ). nth (leaves rs ls ps) k .position % n) (sym (add-zero i)) ∙ number-in n (leaves rs ls ps) ms i 0 m positive))
 
     pub none-so-late : length rs - i < n → never
     none-so-late late = by-merging (λ m. omega (arith, m .inside, leaves-length rs ls ps))
@@ -81,7 +81,7 @@ module _ (n : ℕ) (positive : 0 < n) (rs ls ps ms : List ℕ) where
     pub begins-family : Ready n (leaves rs ls ps) ms → (getD ls i 0 ≡ 0 → ⊥) → getD ps i 0 % n ≡ 0 → n ≤ length rs - i → Alike ls ms i n
         → merging n (leaves rs ls ps) ms i ≡ true
     begins-family ready deep first room alike =
-        let deep-at : 0 < at (leaves rs ls ps) i .level = rw (level-at i inside) (above deep) in
+        let deep-at : 0 < nth (leaves rs ls ps) i .level = rw (level-at i inside) (above deep) in
         let room-at : i + n ≤ length (leaves rs ls ps) = omega (arith, leaves-length rs ls ps) in
         is-merging n (leaves rs ls ps) ms i (record {
           deep = deep-at;

@@ -8,7 +8,7 @@ use native.Mathlib.Nat.{add-zero, mul-comm, mul-assoc, mul-add, mul-one, mul-lt-
 use native.Mathlib.Omega.{arith}
 use lib.Dec.{eqb}
 use Rattle.paper.specs.Outcome.{rows}
-use Rattle.leaves.specs.Leaves.{Leaf, Place, place, span, past, startOf, endOf, Covers}
+use Rattle.leaves.specs.Leaves.{Leaf, Spot, spotAt, span, past, startOf, endOf, Covers}
 use Rattle.leaves.proofs.Span.{power-pos, fill, end-within}
 use Rattle.adaption.specs.Adaption.{child, childrenOf}
 
@@ -26,13 +26,13 @@ module _ (n L : ℕ) (positive : 0 < n) (u : Leaf) (deeper : u .level < L) where
 
   first-starts : startOf n L (child n u 0) ≡ startOf n L u
   first-starts =
-      ap (λ (k : ℕ). place (u .root) (k * span n L (u .level + 1))) (add-zero (n * u .position)) ∙ ap (place (u .root)) (scaled (u .position))
+      ap (λ (k : ℕ). spotAt (u .root) (k * span n L (u .level + 1))) (add-zero (n * u .position)) ∙ ap (spotAt (u .root)) (scaled (u .position))
 
   last-ends : (t : ℕ) → t + 1 ≡ n → endOf n L (child n u t) ≡ endOf n L u
   last-ends t last =
       let next : n * u .position + t + 1 ≡ n * (u .position + 1) = omega (arith, mul-add n (u .position) 1, mul-one n) in
       let same : past n L (child n u t) ≡ past n L u = ap (λ (k : ℕ). k * span n L (u .level + 1)) next ∙ scaled (u .position + 1) in
-      ap (λ (k : ℕ). cond (eqb k (n ^ L)) (place (u .root + 1) 0) (place (u .root) k)) same
+      ap (λ (k : ℕ). cond (eqb k (n ^ L)) (spotAt (u .root + 1) 0) (spotAt (u .root) k)) same
 
   module _ (below : u .position < n ^ u .level) where
     -- positions of the children
@@ -49,7 +49,7 @@ module _ (n L : ℕ) (positive : 0 < n) (u : Leaf) (deeper : u .level < L) where
         let short = mul-lt-mul-of-pos-right less (power-pos n (L - (u .level + 1)) positive) in
         let shallow : u .level + 1 ≤ L = omega arith in
         end-within n L (child n u t) (λ e. omega (arith, short, fill n L (u .level + 1) shallow))
-        ∙ ap (λ (k : ℕ). place (u .root) (k * span n L (u .level + 1))) up
+        ∙ ap (λ (k : ℕ). spotAt (u .root) (k * span n L (u .level + 1))) up
 
   module _ (K : ℕ) (ws : List Leaf) where
     -- from child t on
@@ -58,7 +58,7 @@ module _ (n L : ℕ) (positive : 0 < n) (u : Leaf) (deeper : u .level < L) where
     unfolding Covers
     refine-from below inside rest t zero e =
         let last : t + 1 ≡ n = omega arith in
-        (omega arith, child-below below t (omega arith), refl, inside, subst (λ (c : Place). Covers n L c ws K) (sym (last-ends t last)) rest)
+        (omega arith, child-below below t (omega arith), refl, inside, subst (λ (c : Spot). Covers n L c ws K) (sym (last-ends t last)) rest)
     refine-from below inside rest t (suc k) e =
         let one-more : t + 1 ≡ suc t = omega arith in
         let later : t + 1 < n = omega arith in (
@@ -66,26 +66,26 @@ module _ (n L : ℕ) (positive : 0 < n) (u : Leaf) (deeper : u .level < L) where
           child-below below t (omega arith),
           refl,
           inside,
-          subst (λ (c : Place). Covers n L c (rows (child n u) (suc t) (suc k) ++ ws) K)
+          subst (λ (c : Spot). Covers n L c (rows (child n u) (suc t) (suc k) ++ ws) K)
               (sym (next-starts below t later ∙ ap (λ (j : ℕ). startOf n L (child n u j)) one-more))
               (refine-from below inside rest (suc t) k (omega arith)),
         )
 
-    merge-from : u .position < n ^ u .level → (c : Place) (t k : ℕ) → t + suc k ≡ n → Covers n L c (rows (child n u) t (suc k) ++ ws) K
+    merge-from : u .position < n ^ u .level → (c : Spot) (t k : ℕ) → t + suc k ≡ n → Covers n L c (rows (child n u) t (suc k) ++ ws) K
         → Covers n L (endOf n L u) ws K
     unfolding Covers
     merge-from below c t zero e f =
-        let last : t + 1 ≡ n = omega arith in subst (λ (d : Place). Covers n L d ws K) (last-ends t last) (f .4)
+        let last : t + 1 ≡ n = omega arith in subst (λ (d : Spot). Covers n L d ws K) (last-ends t last) (f .4)
     merge-from below c t (suc k) e f = merge-from below (endOf n L (child n u t)) (suc t) k (omega arith) (f .4)
 
-  module _ (K : ℕ) (c : Place) (ws : List Leaf) where
+  module _ (K : ℕ) (c : Spot) (ws : List Leaf) where
     several : suc (n - 1) ≡ n
     several = omega arith
 
     pub refine-covers : Covers n L c (u ∷ ws) K → Covers n L c (childrenOf n u ++ ws) K
     unfolding Covers
     refine-covers f =
-        subst (λ (d : Place). Covers n L d (childrenOf n u ++ ws) K) (first-starts ∙ f .2)
+        subst (λ (d : Spot). Covers n L d (childrenOf n u ++ ws) K) (first-starts ∙ f .2)
         (subst (λ (k : ℕ). Covers n L (startOf n L (child n u 0)) (rows (child n u) 0 k ++ ws) K) several
         (refine-from K ws (f .1) (f .3) (f .4) 0 (n - 1) (omega arith)))
 

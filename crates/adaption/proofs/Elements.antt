@@ -17,28 +17,28 @@ use Rattle.tree.proofs.RoundTrip.{round-trips}
 use Rattle.tree.proofs.Family.{families}
 use Rattle.tree.specs.Words as words
 use Rattle.leaves.specs.Leaves.{Leaf}
-use Rattle.leaves.specs.Laws.{at}
+use Rattle.leaves.specs.Laws.{nth}
 use Rattle.leaves.proofs.Span.{quotient}
 use Rattle.adaption.specs.Adaption.{every, same, child, parent, family}
-use Rattle.adaption.specs.Laws.{elementOf, Stands, Tied}
+use Rattle.adaption.specs.Laws.{elementOf, Proper, Relatives}
 use Rattle.adaption.proofs.Family.{every-all, same-is}
 
 module _ {E : Type 0} (S : Shape E) (W : Lawful S) where
   -- one level down
-  down : (l q : ℕ) → words.at S (suc l) q ≡ S .child (words.at S l (q / S .children)) (q % S .children)
-  unfolding words.at
+  down : (l q : ℕ) → words.elementAt S (suc l) q ≡ S .child (words.elementAt S l (q / S .children)) (q % S .children)
+  unfolding words.elementAt
   down l q = refl
 
   of-child : (v : Leaf) (t : ℕ) → t < S .children → elementOf S (child (S .children) v t) ≡ S .child (elementOf S v) t
   of-child v t below =
       let place : S .children * v .position + t ≡ v .position * S .children + t = ap (λ (k : ℕ). k + t) (mul-comm (S .children) (v .position)) in
-      ap (λ (l : ℕ). words.at S l (S .children * v .position + t)) (add-one (v .level))
+      ap (λ (l : ℕ). words.elementAt S l (S .children * v .position + t)) (add-one (v .level))
       ∙ down (v .level) (S .children * v .position + t)
-      ∙ ap₂ (λ (q i : ℕ). S .child (words.at S (v .level) q) i) (quotient (S .children) (v .position) t (S .children * v .position + t) place below)
+      ∙ ap₂ (λ (q i : ℕ). S .child (words.elementAt S (v .level) q) i) (quotient (S .children) (v .position) t (S .children * v .position + t) place below)
       (mul-add-mod-self-left (S .children) (v .position) t ∙ mod-eq-of-lt below)
 
   -- the parent of a leaf stands one level up
-  module _ (v : Leaf) (stands : Stands S v) (deep : 0 < v .level) where
+  module _ (v : Leaf) (stands : Proper S v) (deep : 0 < v .level) where
     positive : 0 < S .children
     positive = omega (arith, W .several)
 
@@ -56,25 +56,25 @@ module _ {E : Type 0} (S : Shape E) (W : Lawful S) where
 
     of-parent : elementOf S (parent (S .children) v) ≡ S .parent (elementOf S v)
     of-parent =
-        sym (ap (λ (l : ℕ). S .parent (words.at S l (v .position))) one-more ∙ ap (S .parent) (down (v .level - 1) (v .position))
+        sym (ap (λ (l : ℕ). S .parent (words.elementAt S l (v .position))) one-more ∙ ap (S .parent) (down (v .level - 1) (v .position))
         ∙ W .parent-child (elementOf S (parent (S .children) v)) (v .position % S .children) up-sound up-above (mod-lt (v .position) positive))
 
   same-rows : (f g : ℕ → E) (m i k : ℕ) → i + k ≡ m → ((t : ℕ) → t < m → f t ≡ g t) → rows f i k ≡ rows g i k
   same-rows f g m i zero e alike = refl
   same-rows f g m i (suc k) e alike = ap₂ (λ (x : E) (xs : List E). x ∷ xs) (alike i (omega arith)) (same-rows f g m (suc i) k (omega arith) alike)
 
-  of-family : (vs : List Leaf) (j : ℕ) → ((i : ℕ) → i < length vs → Stands S (at vs i)) → family (S .children) vs j ≡ true
-      → words.family S (rows (λ t. elementOf S (at vs (j + t))) 0 (S .children)) ≡ true
+  of-family : (vs : List Leaf) (j : ℕ) → ((i : ℕ) → i < length vs → Proper S (nth vs i)) → family (S .children) vs j ≡ true
+      → words.family S (rows (λ t. elementOf S (nth vs (j + t))) 0 (S .children)) ≡ true
   of-family vs j stands h =
       let n = S .children in
-      let a = and-eq-true-iff (ltb 0 (at vs j .level)) (leb (j + n) (length vs) && every n (λ t. same (at vs (j + t)) (child n (parent n (at vs j)) t))) .0 h in
-      let b = and-eq-true-iff (leb (j + n) (length vs)) (every n (λ t. same (at vs (j + t)) (child n (parent n (at vs j)) t))) .0 (a .1) in
-      let deep = ltb-true 0 (at vs j .level) (a .0) in
+      let a = and-eq-true-iff (ltb 0 (nth vs j .level)) (leb (j + n) (length vs) && every n (λ t. same (nth vs (j + t)) (child n (parent n (nth vs j)) t))) .0 h in
+      let b = and-eq-true-iff (leb (j + n) (length vs)) (every n (λ t. same (nth vs (j + t)) (child n (parent n (nth vs j)) t))) .0 (a .1) in
+      let deep = ltb-true 0 (nth vs j .level) (a .0) in
       let here : j < length vs = omega (arith, leb-true (j + S .children) (length vs) (b .0), W .several) in
-      ap (words.family S) (same-rows (λ t. elementOf S (at vs (j + t))) (S .child (elementOf S (parent n (at vs j)))) n 0 n (omega arith)
-      (λ t below. ap (elementOf S) (same-is (at vs (j + t)) (child n (parent n (at vs j)) t) (every-all n (λ t. same (at vs (j + t)) (child n (parent n (at vs j)) t)) (b .1) t below))
-      ∙ of-child (parent n (at vs j)) t below))
-      ∙ families S W .of-children (elementOf S (parent n (at vs j))) (up-sound (at vs j) (stands j here) deep) (up-above (at vs j) (stands j here) deep)
+      ap (words.family S) (same-rows (λ t. elementOf S (nth vs (j + t))) (S .child (elementOf S (parent n (nth vs j)))) n 0 n (omega arith)
+      (λ t below. ap (elementOf S) (same-is (nth vs (j + t)) (child n (parent n (nth vs j)) t) (every-all n (λ t. same (nth vs (j + t)) (child n (parent n (nth vs j)) t)) (b .1) t below))
+      ∙ of-child (parent n (nth vs j)) t below))
+      ∙ families S W .of-children (elementOf S (parent n (nth vs j))) (up-sound (nth vs j) (stands j here) deep) (up-above (nth vs j) (stands j here) deep)
 
-  pub tied : Tied S
+  pub tied : Relatives S
   tied = record { children = of-child; parents = of-parent; families = of-family }

@@ -11,7 +11,7 @@ use lib.Dec.{leb, ltb, eqb}
 use lib.ListN.{length}
 use borrow.Author.Tests.{ltb-true, leb-true, eqb-true, lt-ltb, le-leb, eq-eqb}
 use Rattle.leaves.specs.Leaves.{Leaf, leaf}
-use Rattle.leaves.specs.Laws.{at}
+use Rattle.leaves.specs.Laws.{nth}
 use Rattle.adaption.specs.Laws.{Merging}
 use Rattle.adaption.specs.Adaption.{mark, every, same, child, parent, family, merging, eldest}
 
@@ -55,28 +55,28 @@ module _ (n : ℕ) (vs : List Leaf) (ms : List ℕ) where
   pub merging-is : (j : ℕ) → merging n vs ms j ≡ true → Merging n vs ms j
   merging-is j h =
       let a = and-eq-true-iff (family n vs j) (every n (λ t. eqb (mark ms (j + t)) 2)) .0 h in
-      let b = and-eq-true-iff (ltb 0 (at vs j .level)) (leb (j + n) (length vs) && every n (λ t. same (at vs (j + t)) (child n (parent n (at vs j)) t))) .0 (a .0) in
-      let d = and-eq-true-iff (leb (j + n) (length vs)) (every n (λ t. same (at vs (j + t)) (child n (parent n (at vs j)) t))) .0 (b .1) in
+      let b = and-eq-true-iff (ltb 0 (nth vs j .level)) (leb (j + n) (length vs) && every n (λ t. same (nth vs (j + t)) (child n (parent n (nth vs j)) t))) .0 (a .0) in
+      let d = and-eq-true-iff (leb (j + n) (length vs)) (every n (λ t. same (nth vs (j + t)) (child n (parent n (nth vs j)) t))) .0 (b .1) in
       record {
-        deep = ltb-true 0 (at vs j .level) (b .0);
+        deep = ltb-true 0 (nth vs j .level) (b .0);
         inside = leb-true (j + n) (length vs) (d .0);
-        sibling = λ t below. same-is (at vs (j + t)) (child n (parent n (at vs j)) t) (every-all n (λ t. same (at vs (j + t)) (child n (parent n (at vs j)) t)) (d .1) t below);
+        sibling = λ t below. same-is (nth vs (j + t)) (child n (parent n (nth vs j)) t) (every-all n (λ t. same (nth vs (j + t)) (child n (parent n (nth vs j)) t)) (d .1) t below);
         carries = λ t below. eqb-true (mark ms (j + t)) 2 (every-all n (λ t. eqb (mark ms (j + t)) 2) (a .1) t below);
       }
 
   pub is-merging : (j : ℕ) → Merging n vs ms j → merging n vs ms j ≡ true
   is-merging j m =
       simp (
-        lt-ltb 0 (at vs j .level) (m .deep),
+        lt-ltb 0 (nth vs j .level) (m .deep),
         le-leb (j + n) (length vs) (m .inside),
-        all-every n (λ t. same (at vs (j + t)) (child n (parent n (at vs j)) t)) (λ t below. is-same (at vs (j + t)) (child n (parent n (at vs j)) t) (m .sibling t below)),
+        all-every n (λ t. same (nth vs (j + t)) (child n (parent n (nth vs j)) t)) (λ t below. is-same (nth vs (j + t)) (child n (parent n (nth vs j)) t) (m .sibling t below)),
         all-every n (λ t. eqb (mark ms (j + t)) 2) (λ t below. eq-eqb (mark ms (j + t)) 2 (m .carries t below)),
       )
 
   -- a sibling's number is what its position leaves
-  pub number-in : (j t : ℕ) → Merging n vs ms j → t < n → at vs (j + t) .position % n ≡ t
+  pub number-in : (j t : ℕ) → Merging n vs ms j → t < n → nth vs (j + t) .position % n ≡ t
   number-in j t m below =
-      ap (λ (v : Leaf). v .position % n) (m .sibling t below) ∙ mul-add-mod-self-left n (at vs j .position / n) t ∙ mod-eq-of-lt below
+      ap (λ (v : Leaf). v .position % n) (m .sibling t below) ∙ mul-add-mod-self-left n (nth vs j .position / n) t ∙ mod-eq-of-lt below
 
   pub eldest-in : (j t : ℕ) → Merging n vs ms j → t < n → eldest n vs (j + t) ≡ j
   eldest-in j t m below = ap (λ (k : ℕ). j + t - k) (number-in j t m below) ∙ back j t
@@ -86,4 +86,4 @@ module _ (n : ℕ) (vs : List Leaf) (ms : List ℕ) where
 
   pub alone : 0 < n → (j t : ℕ) → Merging n vs ms j → Merging n vs ms (j + t) → t < n → t ≡ 0
   alone positive j t m other below =
-      sym (number-in j t m below) ∙ ap (λ (k : ℕ). at vs k .position % n) (sym (add-zero (j + t))) ∙ number-in (j + t) 0 other positive
+      sym (number-in j t m below) ∙ ap (λ (k : ℕ). nth vs k .position % n) (sym (add-zero (j + t))) ∙ number-in (j + t) 0 other positive

@@ -12,7 +12,7 @@ use lib.ListN.{length, drop, take, length-append, drop-of-length-le, List·getD-
 use lib.Seq.{take-suc, length-take-le, take-at, drop-at, getD-append-add, split-at}
 use Rattle.paper.proofs.Scan.{rows-length}
 use Rattle.leaves.specs.Leaves.{Leaf, leaf}
-use Rattle.leaves.specs.Laws.{at}
+use Rattle.leaves.specs.Laws.{nth}
 use Rattle.leaves.proofs.Listed.{getD-rows}
 use Rattle.adaption.specs.Adaption.{mark, child, parent, childrenOf, merging, joined, gives, adapted}
 use Rattle.adaption.specs.Laws.{Merging, Marked}
@@ -47,7 +47,7 @@ module _ (n : ℕ) (positive : 0 < n) (vs : List Leaf) (ms : List ℕ) where
       by (yes inside) later =
           let here = unmarked i (omega arith) inside in
           from-kept n positive vs ms i clear inside (not-refined (mark ms i) here) (not-merging i here)
-          ∙ ap (λ (us : List Leaf). at vs i ∷ us) (later (clear-kept n positive vs ms i clear (not-merging i here)) (λ j from-next. unmarked j (omega arith)))
+          ∙ ap (λ (us : List Leaf). nth vs i ∷ us) (later (clear-kept n positive vs ms i clear (not-merging i here)) (λ j from-next. unmarked j (omega arith)))
           ∙ sym (drop-next vs i inside)
       by (no beyond) later =
           let past : length vs ≤ i = omega arith in from-end n positive vs ms i past ∙ sym (drop-of-length-le vs past)
@@ -67,7 +67,7 @@ module _ (n : ℕ) (positive : 0 < n) (vs : List Leaf) (ms : List ℕ) where
           record {
             made = u .made
                 ∙ ap (λ (us : List Leaf). take i vs ++ us) (from-kept n positive vs ms i (u .clear) inside (not-refined (mark ms i) here) (not-merging i here))
-                ∙ sym (append-assoc (take i vs) (at vs i ∷ []) (from n positive vs ms (i + 1)))
+                ∙ sym (append-assoc (take i vs) (nth vs i ∷ []) (from n positive vs ms (i + 1)))
                 ∙ ap₂ (λ (us : List Leaf) (k : ℕ). us ++ from n positive vs ms k) (sym (take-suc vs i (leaf 0 0 0) inside)) (add-one i);
             clear = subst (Clear n positive vs ms) (add-one i) (clear-kept n positive vs ms i (u .clear) (not-merging i here));
           }
@@ -76,22 +76,22 @@ module _ (n : ℕ) (positive : 0 < n) (vs : List Leaf) (ms : List ℕ) where
   unmarked-stays unmarked = whole ∙ kept-from (length vs) 0 (omega arith) clear-start (λ j from-start. unmarked j)
 
   -- only leaf i is refined
-  pub refined-once : (i : ℕ) → i < length vs → Marked ms 1 i 1 (length vs) → adapted n vs ms ≡ take i vs ++ (childrenOf n (at vs i) ++ drop (i + 1) vs)
+  pub refined-once : (i : ℕ) → i < length vs → Marked ms 1 i 1 (length vs) → adapted n vs ms ≡ take i vs ++ (childrenOf n (nth vs i) ++ drop (i + 1) vs)
   refined-once i inside marks =
       let before = kept-to i (omega arith) (λ j less. marks .before j (omega arith) less) in
       let here = marks .there i inside (omega arith) (omega arith) in
       whole ∙ before .made
       ∙ ap (λ (us : List Leaf). take i vs ++ us) (from-refined n positive vs ms i inside here
-      ∙ ap (λ (us : List Leaf). childrenOf n (at vs i) ++ us)
+      ∙ ap (λ (us : List Leaf). childrenOf n (nth vs i) ++ us)
       (kept-from (length vs) (i + 1) (omega arith) (clear-refined n positive vs ms i (before .clear) here) (λ j later within. marks .after j within later)))
 
   -- only the family from i on merges
-  pub merged-once : (i : ℕ) → Merging n vs ms i → Marked ms 2 i n (length vs) → adapted n vs ms ≡ take i vs ++ (parent n (at vs i) ∷ drop (i + n) vs)
+  pub merged-once : (i : ℕ) → Merging n vs ms i → Marked ms 2 i n (length vs) → adapted n vs ms ≡ take i vs ++ (parent n (nth vs i) ∷ drop (i + n) vs)
   merged-once i m marks =
       let before = kept-to i (omega (arith, m .inside)) (λ j less. marks .before j (omega (arith, m .inside)) less) in
       whole ∙ before .made
       ∙ ap (λ (us : List Leaf). take i vs ++ us) (from-merged n positive vs ms i m
-      ∙ ap (λ (us : List Leaf). parent n (at vs i) ∷ us)
+      ∙ ap (λ (us : List Leaf). parent n (nth vs i) ∷ us)
       (kept-from (length vs) (i + n) (omega arith) (clear-merged n positive vs ms i (before .clear) m) (λ j later within. marks .after j within later)))
 
 -- ---- refined, then merged
@@ -99,14 +99,14 @@ module _ (n : ℕ) (positive : 0 < n) (a : List Leaf) (v : Leaf) (b : List Leaf)
   abbrev ws : List Leaf
   ws = a ++ (childrenOf n v ++ b)
 
-  child-at : (t : ℕ) → t < n → at ws (length a + t) ≡ child n v t
+  child-at : (t : ℕ) → t < n → nth ws (length a + t) ≡ child n v t
   child-at t below =
       getD-append-add a (childrenOf n v ++ b) t (leaf 0 0 0)
       ∙ List·getD-append (childrenOf n v) b (leaf 0 0 0) t (omega (arith, rows-length (child n v) 0 n))
       ∙ getD-rows (child n v) (leaf 0 0 0) 0 n t below ∙ ap (child n v) (zero-add t)
 
-  first-at : at ws (length a) ≡ child n v 0
-  first-at = ap (at ws) (sym (add-zero (length a))) ∙ child-at 0 positive
+  first-at : nth ws (length a) ≡ child n v 0
+  first-at = ap (nth ws) (sym (add-zero (length a))) ∙ child-at 0 positive
 
   parent-is : parent n (child n v 0) ≡ v
   parent-is =
@@ -141,10 +141,10 @@ pub refined-undone : (n : ℕ) → 0 < n → (vs : List Leaf) (ms ms′ : List �
 refined-undone n positive vs ms ms′ i inside marks marks′ =
     let refined = refined-once n positive vs ms i inside marks in
     let number = length-take-le i vs (omega arith) in
-    let there : Marked ms′ 2 (length (take i vs)) n (length (ws n positive (take i vs) (at vs i) (drop (i + 1) vs))) =
-    subst (λ (k : ℕ). Marked ms′ 2 k n (length (ws n positive (take i vs) (at vs i) (drop (i + 1) vs)))) (sym number)
+    let there : Marked ms′ 2 (length (take i vs)) n (length (ws n positive (take i vs) (nth vs i) (drop (i + 1) vs))) =
+    subst (λ (k : ℕ). Marked ms′ 2 k n (length (ws n positive (take i vs) (nth vs i) (drop (i + 1) vs)))) (sym number)
     (subst (λ (us : List Leaf). Marked ms′ 2 i n (length us)) refined marks′) in
     ap (λ (us : List Leaf). adapted n us ms′) refined
-    ∙ given-back n positive (take i vs) (at vs i) (drop (i + 1) vs) ms′ there
-    ∙ ap (λ (k : ℕ). take i vs ++ (at vs i ∷ drop k vs)) (add-one i)
+    ∙ given-back n positive (take i vs) (nth vs i) (drop (i + 1) vs) ms′ there
+    ∙ ap (λ (k : ℕ). take i vs ++ (nth vs i ∷ drop k vs)) (add-one i)
     ∙ sym (split-at vs i (leaf 0 0 0) inside)

@@ -14,8 +14,8 @@ use Rattle.paper.specs.Outcome.{Outcome, refused, passed}
 use Rattle.paper.proofs.Tests.{no-fault}
 use Rattle.paper.proofs.Scan.{scan-passed, scan-accepted, scan-carry, scan-refused, scan-all}
 use Rattle.tree.proofs.Digits.{power-bits}
-use Rattle.leaves.specs.Leaves.{Leaf, place, Valid}
-use Rattle.leaves.specs.Laws.{at}
+use Rattle.leaves.specs.Leaves.{Leaf, spotAt, Valid}
+use Rattle.leaves.specs.Laws.{nth}
 use Rattle.leaves.proofs.Shift.{position-lt}
 use Rattle.leaves.proofs.Entries.{level-at, position-at}
 use Rattle.adaption.specs.Adaption.{mark}
@@ -52,7 +52,7 @@ module _ (L : ℕ) (ls ms : List ℕ) where
 
 -- ---- 2^b children
 module _ (b L K : ℕ) (narrow : b * L ≤ 63) (small : L ≤ 254) (vs : List Leaf) (ms : List ℕ) (valid : Valid (2 ^ b) L K vs)
-    (known : (i : ℕ) → i < length vs → mark ms i ≤ 2) (above : (i : ℕ) → i < length vs → mark ms i ≡ 1 → at vs i .level < L) where
+    (known : (i : ℕ) → i < length vs → mark ms i ≤ 2) (above : (i : ℕ) → i < length vs → mark ms i ≡ 1 → nth vs i .level < L) where
   children-low : (l p : ℕ) → l < L → p < (2 ^ b) ^ l → 2 ^ b * p + 2 ^ b ≤ 2 ^ 63
   children-low l p deeper below =
       let next : p + 1 ≤ (2 ^ b) ^ l = omega arith in
@@ -64,9 +64,9 @@ module _ (b L K : ℕ) (narrow : b * L ≤ 63) (small : L ≤ 254) (vs : List Le
   pub ready : Ready (2 ^ b) vs ms
   ready =
       record {
-        siblings = are-siblings (2 ^ b) L (pow-pos b) K (place 0 0) vs valid;
+        siblings = are-siblings (2 ^ b) L (pow-pos b) K (spotAt 0 0) vs valid;
         known = known;
-        low = λ i inside. position-lt b L narrow (at vs i .position) (at vs i .level) (level-at (2 ^ b) L K (place 0 0) vs i valid inside) (position-at (2 ^ b) L K (place 0 0) vs i valid inside);
+        low = λ i inside. position-lt b L narrow (nth vs i .position) (nth vs i .level) (level-at (2 ^ b) L K (spotAt 0 0) vs i valid inside) (position-at (2 ^ b) L K (spotAt 0 0) vs i valid inside);
         shallow = λ i inside refined. let deep = above i inside refined in omega arith;
-        narrow = λ i inside refined. children-low (at vs i .level) (at vs i .position) (above i inside refined) (position-at (2 ^ b) L K (place 0 0) vs i valid inside);
+        narrow = λ i inside refined. children-low (nth vs i .level) (nth vs i .position) (above i inside refined) (position-at (2 ^ b) L K (spotAt 0 0) vs i valid inside);
       }

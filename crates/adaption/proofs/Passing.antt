@@ -10,7 +10,7 @@ use lib.ListN.{length, length-append}
 use borrow.Author.Tests.{eq-eqb, ne-eqb}
 use Rattle.paper.proofs.Scan.{rows-length}
 use Rattle.leaves.specs.Leaves.{Leaf, leaf}
-use Rattle.leaves.specs.Laws.{at}
+use Rattle.leaves.specs.Laws.{nth}
 use Rattle.adaption.specs.Adaption.{joined, gives, adapted}
 use Rattle.adaption.specs.Pass.{turn, gain, stride, newLevel, newPosition, made}
 use Rattle.leaves.specs.Stretch.{stretch, Ran, Passed}
@@ -91,7 +91,7 @@ module _ (n : ℕ) (positive : 0 < n) where
             ap length (a .split ∙ ap (λ (us : List Leaf). a .done ++ us) (here .makes))
             ∙ length-append (a .done) (made n vs ms i ++ from n positive vs ms (i + stride n (turn n vs ms i)))
             ∙ ap (λ (k : ℕ). length (a .done) + k) (length-append (made n vs ms i) (from n positive vs ms (i + stride n (turn n vs ms i))))
-            ∙ omega (arith, a .counted, rows-length (λ t. leaf (at vs i .root) (newLevel (turn n vs ms i) (at vs i .level)) (newPosition n (turn n vs ms i) (at vs i .position) + t)) 0 (gain n (turn n vs ms i)))
+            ∙ omega (arith, a .counted, rows-length (λ t. leaf (nth vs i .root) (newLevel (turn n vs ms i) (nth vs i .level)) (newPosition n (turn n vs ms i) (nth vs i .position) + t)) 0 (gain n (turn n vs ms i)))
 
         pub along-room : size + gain n (turn n vs ms i) ≤ length (adapted n vs ms)
         along-room = omega (arith, longer)
@@ -150,7 +150,7 @@ module _ (n : ℕ) (positive : 0 < n) (vs : List Leaf) (ms : List ℕ) (roots le
     module _ (inside : i < length vs) (room : length (adapted n vs ms) ≤ length roots) (l-long : length roots ≡ length levels) (p-long : length roots ≡ length positions) where
       fits : (l : List ℕ) → length roots ≡ length l → length (u .along .done) + length (made n vs ms i) ≤ length l
       fits l long =
-          omega (arith, along-room n positive vs ms i size (u .along) inside, u .along .counted, room, long, rows-length (λ t. leaf (at vs i .root) (newLevel (turn n vs ms i) (at vs i .level)) (newPosition n (turn n vs ms i) (at vs i .position) + t)) 0 (gain n (turn n vs ms i)))
+          omega (arith, along-room n positive vs ms i size (u .along) inside, u .along .counted, room, long, rows-length (λ t. leaf (nth vs i .root) (newLevel (turn n vs ms i) (nth vs i .level)) (newPosition n (turn n vs ms i) (nth vs i .position) + t)) 0 (gain n (turn n vs ms i)))
 
       pub underway-more : {rs′ ls′ ps′ : List ℕ} → Ran size (made n vs ms i) rs ls ps rs′ ls′ ps′
           → Underway (i + stride n (turn n vs ms i)) (size + gain n (turn n vs ms i)) rs′ ls′ ps′
@@ -175,7 +175,7 @@ module _ (n : ℕ) (positive : 0 < n) (vs : List Leaf) (ms : List ℕ) (roots le
           (underway-more (subst (λ (x : List Leaf). Ran size x rs ls ps rs′ ls′ ps′) run f)))
 
 -- ---- what the code has run is what the turn makes
-pub made-is : (n : ℕ) (vs : List Leaf) (ms : List ℕ) (i t l p k : ℕ) (v : Leaf) → t ≡ turn n vs ms i → v ≡ at vs i
+pub made-is : (n : ℕ) (vs : List Leaf) (ms : List ℕ) (i t l p k : ℕ) (v : Leaf) → t ≡ turn n vs ms i → v ≡ nth vs i
     → l ≡ newLevel t (v .level) → p ≡ newPosition n t (v .position) → k ≡ gain n t → stretch (v .root) l p k ≡ made n vs ms i
 made-is n vs ms i t l p k v is-turn is-leaf level position count =
     ap (λ (x : ℕ). stretch (v .root) x p k) level

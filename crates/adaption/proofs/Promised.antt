@@ -12,7 +12,7 @@ use borrow.Author.Tests.{ltb-false}
 use Rattle.paper.specs.Outcome.{accepted, passed}
 use Rattle.paper.proofs.Scan.{accepted-of, scan-accepted, scan-passed}
 use Rattle.leaves.specs.Leaves.{Leaf, leaf, Valid}
-use Rattle.leaves.specs.Laws.{at}
+use Rattle.leaves.specs.Laws.{nth}
 use Rattle.leaves.specs.Calls.{outOfRange}
 use Rattle.leaves.proofs.Listed.{listed-accepted}
 use Rattle.leaves.proofs.UniformValid.{uniform-valid}
@@ -57,7 +57,7 @@ module _ (n L : ℕ) (positive : 0 < n) where
     refinable : adaption n L K roots levels positions ms equal room ≡ accepted size → Refinable n L vs ms
     refinable h i inside refined = by (decLt i (length ms))
       where
-        by : Dec (i < length ms) → at vs i .level < L
+        by : Dec (i < length ms) → nth vs i .level < L
         by (yes within) = subst (λ (l : ℕ). l < L) (List·getD-map (λ (v : Leaf). v .level) vs i (leaf 0 0 0)) (refined-above L levels ms (marks-passed h) i within refined)
         by (no beyond) = absurd (let none = List·getD-eq-default ms 0 {n = i} (omega arith) in omega arith)
 

@@ -6,8 +6,8 @@ use Prim.Native.Nat.{ℕ, zero, suc, _+_, _-_, _*_, _/_, _%_, _^_, _≤_, _<_}
 use native.Mathlib.Nat.{add-zero, mul-comm, mul-lt-mul-of-pos-right, mul-le-mul-right, lt-of-mul-lt-mul-right, mul-div-cancel, div-add-mod', pow-suc}
 use native.Mathlib.Omega.{arith}
 use lib.ListN.{length}
-use Rattle.leaves.specs.Leaves.{Leaf, leaf, Place, place, span, startOf, endOf, Covers}
-use Rattle.leaves.specs.Laws.{at}
+use Rattle.leaves.specs.Leaves.{Leaf, leaf, Spot, spotAt, span, startOf, endOf, Covers}
+use Rattle.leaves.specs.Laws.{nth}
 use Rattle.leaves.proofs.Span.{more-mul, power-pos, fill, end-within}
 use Rattle.leaves.proofs.Entries.{level-at, position-at, follows}
 use Rattle.adaption.specs.Adaption.{child, parent}
@@ -28,35 +28,35 @@ module _ (n L : ℕ) (positive : 0 < n) where
   next-position r l q v shallow below level starts =
       let some = power-pos n (L - l) positive in
       let short = mul-lt-mul-of-pos-right below some in
-      let spot : startOf n L v ≡ place r ((q + 1) * span n L l) =
+      let spot : startOf n L v ≡ spotAt r ((q + 1) * span n L l) =
       starts ∙ end-within n L (leaf r l q) (λ e. omega (arith, short, fill n L l shallow)) in
       let scaled : v .position * span n L l ≡ (q + 1) * span n L l =
-      ap (λ (k : ℕ). v .position * span n L k) (sym level) ∙ ap (λ (p : Place). p .cell) spot in
+      ap (λ (k : ℕ). v .position * span n L k) (sym level) ∙ ap (λ (p : Spot). p .cell) spot in
       let position : v .position ≡ q + 1 =
       sym (mul-div-cancel (v .position) some) ∙ ap (λ (k : ℕ). k / span n L l) scaled ∙ mul-div-cancel (q + 1) some in
-      ap (λ (k : ℕ). leaf k (v .level) (v .position)) (ap (λ (p : Place). p .root) spot) ∙ ap₂ (leaf r) level position
+      ap (λ (k : ℕ). leaf k (v .level) (v .position)) (ap (λ (p : Spot). p .root) spot) ∙ ap₂ (leaf r) level position
 
-  module _ (K : ℕ) (c : Place) (vs : List Leaf) (f : Covers n L c vs K)
-      (j : ℕ) (inside : j + n ≤ length vs) (deep : 0 < at vs j .level) (first : at vs j .position % n ≡ 0)
-      (alike : (t : ℕ) → t < n → at vs (j + t) .level ≡ at vs j .level) where
-    in-row : (t : ℕ) → t < n → at vs (j + t) ≡ leaf (at vs j .root) (at vs j .level) (at vs j .position + t)
+  module _ (K : ℕ) (c : Spot) (vs : List Leaf) (f : Covers n L c vs K)
+      (j : ℕ) (inside : j + n ≤ length vs) (deep : 0 < nth vs j .level) (first : nth vs j .position % n ≡ 0)
+      (alike : (t : ℕ) → t < n → nth vs (j + t) .level ≡ nth vs j .level) where
+    in-row : (t : ℕ) → t < n → nth vs (j + t) ≡ leaf (nth vs j .root) (nth vs j .level) (nth vs j .position + t)
     in-row zero below =
-        ap (at vs) (add-zero j) ∙ ap (leaf (at vs j .root) (at vs j .level)) (sym (add-zero (at vs j .position)))
+        ap (nth vs) (add-zero j) ∙ ap (leaf (nth vs j .root) (nth vs j .level)) (sym (add-zero (nth vs j .position)))
     in-row (suc t) below =
         let within : suc (j + t) < length vs = omega arith in
         let here : j < length vs = omega arith in
         let number : j + suc t ≡ suc (j + t) = omega arith in
-        let up : at vs j .position + suc t ≡ at vs j .position + t + 1 = omega arith in
-        let room = whole-family n (at vs j .level) (at vs j .position) deep (position-at n L K c vs j f here) first in
-        ap (at vs) number
-        ∙ next-position (at vs j .root) (at vs j .level) (at vs j .position + t) (at vs (suc (j + t))) (level-at n L K c vs j f here) (omega arith)
-        (ap (λ (k : ℕ). at vs k .level) (sym number) ∙ alike (suc t) below)
+        let up : nth vs j .position + suc t ≡ nth vs j .position + t + 1 = omega arith in
+        let room = whole-family n (nth vs j .level) (nth vs j .position) deep (position-at n L K c vs j f here) first in
+        ap (nth vs) number
+        ∙ next-position (nth vs j .root) (nth vs j .level) (nth vs j .position + t) (nth vs (suc (j + t))) (level-at n L K c vs j f here) (omega arith)
+        (ap (λ (k : ℕ). nth vs k .level) (sym number) ∙ alike (suc t) below)
         (follows n L K c vs (j + t) f within ∙ ap (endOf n L) (in-row t (omega arith)))
-        ∙ ap (leaf (at vs j .root) (at vs j .level)) (sym up)
+        ∙ ap (leaf (nth vs j .root) (nth vs j .level)) (sym up)
 
-    pub are-siblings : (t : ℕ) → t < n → at vs (j + t) ≡ child n (parent n (at vs j)) t
+    pub are-siblings : (t : ℕ) → t < n → nth vs (j + t) ≡ child n (parent n (nth vs j)) t
     are-siblings t below =
-        let level : at vs j .level ≡ at vs j .level - 1 + 1 = omega arith in
-        let position : at vs j .position + t ≡ n * (at vs j .position / n) + t =
-        omega (arith, div-add-mod' (at vs j .position) n, mul-comm n (at vs j .position / n), first) in
-        in-row t below ∙ ap₂ (leaf (at vs j .root)) level position
+        let level : nth vs j .level ≡ nth vs j .level - 1 + 1 = omega arith in
+        let position : nth vs j .position + t ≡ n * (nth vs j .position / n) + t =
+        omega (arith, div-add-mod' (nth vs j .position) n, mul-comm n (nth vs j .position / n), first) in
+        in-row t below ∙ ap₂ (leaf (nth vs j .root)) level position

@@ -11,7 +11,7 @@ use native.Mathlib.Omega.{arith}
 use lib.ListN.{length}
 use borrow.Author.Tests.{eq-eqb, ne-eqb}
 use Rattle.leaves.specs.Leaves.{Leaf, leaf}
-use Rattle.leaves.specs.Laws.{at}
+use Rattle.leaves.specs.Laws.{nth}
 use Rattle.adaption.specs.Adaption.{mark, joined, childrenOf, parent, merging, gives}
 use Rattle.adaption.specs.Pass.{turn, gain, stride, newLevel, newPosition, made}
 use Rattle.leaves.specs.Stretch.{stretch}
@@ -39,7 +39,7 @@ module _ (n : ℕ) (positive : 0 < n) (vs : List Leaf) (ms : List ℕ) where
       ap (joined (gives n vs ms) i) more ∙ ap (λ (k : ℕ). gives n vs ms i ++ joined (gives n vs ms) k (length vs - (i + 1))) (sym (add-one i))
 
   -- ---- the three turns
-  pub from-refined : (i : ℕ) → i < length vs → mark ms i ≡ 1 → from i ≡ childrenOf n (at vs i) ++ from (i + 1)
+  pub from-refined : (i : ℕ) → i < length vs → mark ms i ≡ 1 → from i ≡ childrenOf n (nth vs i) ++ from (i + 1)
   from-refined i inside refined = from-next i inside ∙ ap (λ (us : List Leaf). us ++ from (i + 1)) (gives-refined n positive vs ms i refined)
 
   past-younger : (j t k : ℕ) → Merging n vs ms j → 0 < t → t + k ≡ n → from (j + t) ≡ from (j + n)
@@ -53,11 +53,11 @@ module _ (n : ℕ) (positive : 0 < n) (vs : List Leaf) (ms : List ℕ) where
       ∙ ap from next
       ∙ past-younger j (t + 1) k m (omega arith) (omega (arith, add-suc t k))
 
-  pub from-merged : (j : ℕ) → Merging n vs ms j → from j ≡ parent n (at vs j) ∷ from (j + n)
+  pub from-merged : (j : ℕ) → Merging n vs ms j → from j ≡ parent n (nth vs j) ∷ from (j + n)
   from-merged j m =
       from-next j (omega (arith, m .inside))
       ∙ ap (λ (us : List Leaf). us ++ from (j + 1)) (gives-merged n positive vs ms j m)
-      ∙ ap (λ (us : List Leaf). parent n (at vs j) ∷ us) (past-younger j 1 (n - 1) m (omega arith) (omega arith))
+      ∙ ap (λ (us : List Leaf). parent n (nth vs j) ∷ us) (past-younger j 1 (n - 1) m (omega arith) (omega arith))
 
   module _ (i : ℕ) (clear : Clear i) where
     clear-next : (merging n vs ms i ≡ true → ⊥) → Clear (i + 1)
@@ -86,7 +86,7 @@ module _ (n : ℕ) (positive : 0 < n) (vs : List Leaf) (ms : List ℕ) where
             let none = alone n vs ms positive i (j - i) m (merging-is n vs ms (i + (j - i)) (ap (merging n vs ms) place ∙ other)) (omega arith) in
             omega arith
 
-    pub from-kept : i < length vs → (mark ms i ≡ 1 → ⊥) → (merging n vs ms i ≡ true → ⊥) → from i ≡ at vs i ∷ from (i + 1)
+    pub from-kept : i < length vs → (mark ms i ≡ 1 → ⊥) → (merging n vs ms i ≡ true → ⊥) → from i ≡ nth vs i ∷ from (i + 1)
     from-kept inside other none =
         from-next i inside ∙ ap (λ (us : List Leaf). us ++ from (i + 1)) (gives-kept n positive vs ms i other free)
       where
@@ -112,7 +112,7 @@ module _ (n : ℕ) (positive : 0 < n) (vs : List Leaf) (ms : List ℕ) where
 
   -- the leaf i and a turn t
   abbrev madeBy : ℕ → ℕ → List Leaf
-  madeBy i t = stretch (at vs i .root) (newLevel t (at vs i .level)) (newPosition n t (at vs i .position)) (gain n t)
+  madeBy i t = stretch (nth vs i .root) (newLevel t (nth vs i .level)) (newPosition n t (nth vs i .position)) (gain n t)
 
   pub record Turn (i : ℕ) : Type 0 where
     pub makes : from i ≡ made n vs ms i ++ from (i + stride n (turn n vs ms i))
@@ -141,13 +141,13 @@ module _ (n : ℕ) (positive : 0 < n) (vs : List Leaf) (ms : List ℕ) where
     at-merged : (mark ms i ≡ 1 → ⊥) → Merging n vs ms i → Turn i
     at-merged other m =
         turned i 2 (simp (ne-eqb (mark ms i) 1 other, is-merging n vs ms i m))
-        (from-merged i m ∙ ap (λ (p : ℕ). leaf (at vs i .root) (at vs i .level - 1) p ∷ from (i + n)) (sym (add-zero _)))
+        (from-merged i m ∙ ap (λ (p : ℕ). leaf (nth vs i .root) (nth vs i .level - 1) p ∷ from (i + n)) (sym (add-zero _)))
         (clear-merged i clear m) (m .inside) (λ one. absurd (omega arith)) (λ two. m)
 
     at-kept : (mark ms i ≡ 1 → ⊥) → (merging n vs ms i ≡ true → ⊥) → Turn i
     at-kept other none =
         turned i 0 (simp (ne-eqb (mark ms i) 1 other, not-so (merging n vs ms i) none))
-        (from-kept i clear inside other none ∙ ap (λ (p : ℕ). leaf (at vs i .root) (at vs i .level) p ∷ from (i + 1)) (sym (add-zero (at vs i .position))))
+        (from-kept i clear inside other none ∙ ap (λ (p : ℕ). leaf (nth vs i .root) (nth vs i .level) p ∷ from (i + 1)) (sym (add-zero (nth vs i .position))))
         (clear-kept i clear none) (omega arith) (λ one. absurd (omega arith)) (λ two. absurd (omega arith))
 
     pub turn-at : Turn i

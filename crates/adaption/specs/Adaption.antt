@@ -20,7 +20,7 @@ use lib.Dec.{leb, ltb, eqb}
 use lib.ListN.{length, getD}
 use Rattle.paper.specs.Outcome.{rows}
 use Rattle.leaves.specs.Leaves.{Leaf, leaf}
-use Rattle.leaves.specs.Laws.{at}
+use Rattle.leaves.specs.Laws.{nth}
 
 abbrev pub mark : List ℕ → ℕ → ℕ
 mark ms i = getD ms i 0
@@ -50,21 +50,21 @@ module _ (n : ℕ) where
 
   abbrev pub family : List Leaf → ℕ → Bool
   family vs j =
-      ltb 0 (at vs j .level)
+      ltb 0 (nth vs j .level)
       && (leb (j + n) (length vs)
-      && every n (λ t. same (at vs (j + t)) (child (parent (at vs j)) t)))
+      && every n (λ t. same (nth vs (j + t)) (child (parent (nth vs j)) t)))
 
   abbrev pub merging : List Leaf → List ℕ → ℕ → Bool
   merging vs ms j = family vs j && every n (λ t. eqb (mark ms (j + t)) 2)
 
   abbrev pub eldest : List Leaf → ℕ → ℕ
-  eldest vs i = i - at vs i .position % n
+  eldest vs i = i - nth vs i .position % n
 
   abbrev pub gives : List Leaf → List ℕ → ℕ → List Leaf
   gives vs ms i =
-      cond (eqb (mark ms i) 1) (childrenOf (at vs i))
-      (cond (merging vs ms (eldest vs i)) (cond (eqb (eldest vs i) i) (parent (at vs i) ∷ []) [])
-      (at vs i ∷ []))
+      cond (eqb (mark ms i) 1) (childrenOf (nth vs i))
+      (cond (merging vs ms (eldest vs i)) (cond (eqb (eldest vs i) i) (parent (nth vs i) ∷ []) [])
+      (nth vs i ∷ []))
 
   abbrev pub adapted : List Leaf → List ℕ → List Leaf
   adapted vs ms = joined (gives vs ms) 0 (length vs)

@@ -8,7 +8,7 @@
 --   Reached K s ws    the list ws is reached from a uniform start by s accepted adaptions, one after the other
 --   Promised          all of it
 --   elementOf S v     the element of a shape that a leaf is
---   Tied S            a leaf's children and its parent are the element's, and leaves that are a family here are one there: "yes exactly when
+--   Relatives S            a leaf's children and its parent are the element's, and leaves that are a family here are one there: "yes exactly when
 --                     the given elements are all children of one parent, in order"
 --
 -- Assumes nothing.
@@ -22,7 +22,7 @@ use Rattle.paper.specs.Outcome.{accepted, rows}
 use Rattle.tree.specs.Shape.{Shape}
 use Rattle.tree.specs.Words as words
 use Rattle.leaves.specs.Leaves.{Leaf, rootsOf, levelsOf, positionsOf, Valid}
-use Rattle.leaves.specs.Laws.{at}
+use Rattle.leaves.specs.Laws.{nth}
 use Rattle.leaves.specs.Leaves as leaves
 use Rattle.leaves.specs.Calls as calls
 use Rattle.adaption.specs.Adaption.{mark, child, parent, childrenOf, family, merging, gives, adapted}
@@ -35,21 +35,21 @@ pub record Marked (ms : List ℕ) (m i k N : ℕ) : Type 0 where
 
 module _ (n : ℕ) where
   pub record Merging (vs : List Leaf) (ms : List ℕ) (j : ℕ) : Type 0 where
-    pub deep : 0 < at vs j .level
+    pub deep : 0 < nth vs j .level
     pub inside : j + n ≤ length vs
-    pub sibling : (t : ℕ) → t < n → at vs (j + t) ≡ child n (parent n (at vs j)) t
+    pub sibling : (t : ℕ) → t < n → nth vs (j + t) ≡ child n (parent n (nth vs j)) t
     pub carries : (t : ℕ) → t < n → mark ms (j + t) ≡ 2
 
   pub record OnePass (vs : List Leaf) (ms : List ℕ) : Type 0 where
     pub exactly : (j : ℕ) → merging n vs ms j ≡ true ↔ Merging vs ms j
-    pub refined : (i : ℕ) → mark ms i ≡ 1 → gives n vs ms i ≡ childrenOf n (at vs i)
-    pub merged : (j : ℕ) → Merging vs ms j → gives n vs ms j ≡ parent n (at vs j) ∷ []
+    pub refined : (i : ℕ) → mark ms i ≡ 1 → gives n vs ms i ≡ childrenOf n (nth vs i)
+    pub merged : (j : ℕ) → Merging vs ms j → gives n vs ms j ≡ parent n (nth vs j) ∷ []
     pub merged-too : (j t : ℕ) → Merging vs ms j → 0 < t → t < n → gives n vs ms (j + t) ≡ []
-    pub kept : (i : ℕ) → (mark ms i ≡ 1 → ⊥) → ((j : ℕ) → j ≤ i → i < j + n → Merging vs ms j → ⊥) → gives n vs ms i ≡ at vs i ∷ []
+    pub kept : (i : ℕ) → (mark ms i ≡ 1 → ⊥) → ((j : ℕ) → j ≤ i → i < j + n → Merging vs ms j → ⊥) → gives n vs ms i ≡ nth vs i ∷ []
 
   module _ (L : ℕ) where
     abbrev pub Refinable : List Leaf → List ℕ → Type 0
-    Refinable vs ms = (i : ℕ) → i < length vs → mark ms i ≡ 1 → at vs i .level < L
+    Refinable vs ms = (i : ℕ) → i < length vs → mark ms i ≡ 1 → nth vs i .level < L
 
     pub record Begun (K : ℕ) (ws : List Leaf) : Type 0 where
       pub level : ℕ
@@ -81,15 +81,15 @@ module _ (n : ℕ) where
 
 module _ {E : Type 0} (S : Shape E) where
   abbrev pub elementOf : Leaf → E
-  elementOf v = words.at S (v .level) (v .position)
+  elementOf v = words.elementAt S (v .level) (v .position)
 
   -- a leaf of the shape's levels and positions
-  pub record Stands (v : Leaf) : Type 0 where
+  pub record Proper (v : Leaf) : Type 0 where
     pub level : v .level ≤ S .highest
     pub position : v .position < S .children ^ v .level
 
-  pub record Tied : Type 0 where
+  pub record Relatives : Type 0 where
     pub children : (v : Leaf) (t : ℕ) → t < S .children → elementOf (child (S .children) v t) ≡ S .child (elementOf v) t
-    pub parents : (v : Leaf) → Stands v → 0 < v .level → elementOf (parent (S .children) v) ≡ S .parent (elementOf v)
-    pub families : (vs : List Leaf) (j : ℕ) → ((i : ℕ) → i < length vs → Stands (at vs i)) → family (S .children) vs j ≡ true
-        → words.family S (rows (λ t. elementOf (at vs (j + t))) 0 (S .children)) ≡ true
+    pub parents : (v : Leaf) → Proper v → 0 < v .level → elementOf (parent (S .children) v) ≡ S .parent (elementOf v)
+    pub families : (vs : List Leaf) (j : ℕ) → ((i : ℕ) → i < length vs → Proper (nth vs i)) → family (S .children) vs j ≡ true
+        → words.family S (rows (λ t. elementOf (nth vs (j + t))) 0 (S .children)) ≡ true

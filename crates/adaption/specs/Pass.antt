@@ -19,7 +19,7 @@ use lib.Dec.{eqb}
 use lib.ListN.{length}
 use Rattle.leaves.specs.Leaves.{Leaf}
 use Rattle.leaves.specs.Stretch.{stretch}
-use Rattle.leaves.specs.Laws.{at}
+use Rattle.leaves.specs.Laws.{nth}
 use Rattle.adaption.specs.Adaption.{mark, child, parent, merging}
 use Rattle.adaption.specs.Calls.{markFault, depthFault}
 
@@ -41,16 +41,16 @@ module _ (n : ℕ) where
 
   abbrev pub made : List Leaf → List ℕ → ℕ → List Leaf
   made vs ms i =
-      stretch (at vs i .root) (newLevel (turn vs ms i) (at vs i .level)) (newPosition (turn vs ms i) (at vs i .position)) (gain (turn vs ms i))
+      stretch (nth vs i .root) (newLevel (turn vs ms i) (nth vs i .level)) (newPosition (turn vs ms i) (nth vs i .position)) (gain (turn vs ms i))
 
   pub record Ready (vs : List Leaf) (ms : List ℕ) : Type 0 where
-    pub siblings : (j : ℕ) → j + n ≤ length vs → 0 < at vs j .level → at vs j .position % n ≡ 0
-        → ((t : ℕ) → t < n → at vs (j + t) .level ≡ at vs j .level)
-        → (t : ℕ) → t < n → at vs (j + t) ≡ child n (parent n (at vs j)) t
+    pub siblings : (j : ℕ) → j + n ≤ length vs → 0 < nth vs j .level → nth vs j .position % n ≡ 0
+        → ((t : ℕ) → t < n → nth vs (j + t) .level ≡ nth vs j .level)
+        → (t : ℕ) → t < n → nth vs (j + t) ≡ child n (parent n (nth vs j)) t
     pub known : (i : ℕ) → i < length vs → mark ms i ≤ 2
-    pub low : (i : ℕ) → i < length vs → at vs i .position < 2 ^ 63
-    pub shallow : (i : ℕ) → i < length vs → mark ms i ≡ 1 → at vs i .level < 255
-    pub narrow : (i : ℕ) → i < length vs → mark ms i ≡ 1 → n * at vs i .position + n ≤ 2 ^ 63
+    pub low : (i : ℕ) → i < length vs → nth vs i .position < 2 ^ 63
+    pub shallow : (i : ℕ) → i < length vs → mark ms i ≡ 1 → nth vs i .level < 255
+    pub narrow : (i : ℕ) → i < length vs → mark ms i ≡ 1 → n * nth vs i .position + n ≤ 2 ^ 63
 
 abbrev pub Faultless : ℕ → List ℕ → List ℕ → ℕ → ℕ → Type 0
 Faultless L ls ms k r = r ≡ 0 → (j : ℕ) → j < k → (markFault ms j ≡ 0) × (depthFault L ls ms j ≡ 0)

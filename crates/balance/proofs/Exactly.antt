@@ -11,8 +11,8 @@ use lib.Dec.{leb}
 use lib.ListN.{length}
 use borrow.Author.Tests.{le-leb, leb-true, eq-eqb}
 use Rattle.leaves.specs.Leaves.{Leaf}
-use Rattle.leaves.specs.Laws.{at}
-use Rattle.balance.specs.Balance.{near, balancedAfter, balanced, Near, Exact}
+use Rattle.leaves.specs.Laws.{nth}
+use Rattle.balance.specs.Balance.{near, balancedAfter, balanced, Near, ExactBalance}
 use Rattle.balance.proofs.Pairs.{near-levels, near-roots}
 
 -- ---- two leaves
@@ -33,7 +33,7 @@ module _ (u v : Leaf) where
 
 -- ---- all of them; leaf j is the next after leaf i
 abbrev Next : List Leaf → ℕ → ℕ → Type 0
-Next vs i j = j < length vs → at vs i .root ≡ at vs j .root → Near (at vs i) (at vs j)
+Next vs i j = j < length vs → nth vs i .root ≡ nth vs j .root → Near (nth vs i) (nth vs j)
 
 after-sound : (u : Leaf) (vs : List Leaf) → balancedAfter u vs ≡ true → (i : ℕ) → Next (u ∷ vs) i (suc i)
 unfolding balancedAfter
@@ -48,7 +48,7 @@ after-complete u (v ∷ vs) f =
     and-eq-true-iff (near u v) (balancedAfter v vs) .1
     (near-complete u v (f 0 (omega arith)), after-complete v vs (λ i inside. f (suc i) (omega arith)))
 
-pub exact : Exact
+pub exact : ExactBalance
 unfolding balanced
 exact [] = ((λ h i inside same. absurd (omega arith)), (λ f. refl))
 exact (u ∷ vs) = (

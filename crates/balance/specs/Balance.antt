@@ -4,7 +4,7 @@
 --   balanced vs    so do any two of vs that follow one another; balancedAfter u vs: and u and the first of vs
 --   isBalanced     the call: the tests of a list call, then yes or no
 --   Balanced vs    the paper's sentence as a statement, Near u v for two leaves
---   Exact          yes is exactly that
+--   ExactBalance          yes is exactly that
 --
 -- Assumes nothing.
 use mathlib.Core.Path.{_≡_}
@@ -17,7 +17,7 @@ use lib.ListN.{length}
 use Rattle.paper.specs.Outcome.{Outcome, accepted}
 use Rattle.leaves.specs.Leaves.{Leaf, leaves}
 use Rattle.leaves.specs.Calls.{listed}
-use Rattle.leaves.specs.Laws.{at}
+use Rattle.leaves.specs.Laws.{nth}
 
 abbrev pub near : Leaf → Leaf → Bool
 near u v = not (eqb (u .root) (v .root)) || (leb (u .level) (v .level + 1) && leb (v .level) (u .level + 1))
@@ -40,7 +40,7 @@ pub record Near (u v : Leaf) : Type 0 where
   pub not-far-above : v .level ≤ u .level + 1
 
 abbrev pub Balanced : List Leaf → Type 0
-Balanced vs = (i : ℕ) → i + 1 < length vs → at vs i .root ≡ at vs (i + 1) .root → Near (at vs i) (at vs (i + 1))
+Balanced vs = (i : ℕ) → i + 1 < length vs → nth vs i .root ≡ nth vs (i + 1) .root → Near (nth vs i) (nth vs (i + 1))
 
-abbrev pub Exact : Type 0
-Exact = (vs : List Leaf) → balanced vs ≡ true ↔ Balanced vs
+abbrev pub ExactBalance : Type 0
+ExactBalance = (vs : List Leaf) → balanced vs ≡ true ↔ Balanced vs

@@ -7,14 +7,14 @@ use native.Mathlib.Omega.{arith}
 use borrow.Author.Tests.{lt-ltb, le-ltb, lt-leb, le-leb}
 use Rattle.paper.specs.Outcome.{accepted, refused}
 use Rattle.tree.specs.Laws.{Sound}
-use Rattle.tree.specs.Words.{at}
+use Rattle.tree.specs.Words.{elementAt}
 use Rattle.tree.specs.Calls
 use Rattle.tree.proofs.Call.{at-accepted}
 use Rattle.tree.proofs.RoundTrip.{at-sound}
 use Rattle.prism.specs.declared.Prism.{Prism}
 use Rattle.prism.specs.declared.PrismAnswer.{PrismAnswer}
 use Rattle.prism.specs.declared.PrismAnswer.the-variants.{Is, Refused}
-use Rattle.prism.specs.Elements.{prism, prismTo, elementOf}
+use Rattle.prism.specs.Elements.{prism, prismTo, prismOf}
 use Rattle.prism.specs.Points as prisms
 use Rattle.prism.proofs.Laws.{lawful}
 use Rattle.corners.specs.declared.Root.{Root}
@@ -38,28 +38,28 @@ module _ (l p i : ℕ) (r : Root) where
     unfolding cornerPoint
     point-refused-24 small out = simp (le-ltb 21 l shallow, lt-leb (8 ^ l) p below, lt-leb 6 i small, out)
 
-    pub point-accepted : i < 6 → rootWithin r ≡ true → cornerPoint l p i r ≡ accepted (pointAt r (prisms.corner 21 (at prism l p) i))
+    pub point-accepted : i < 6 → rootWithin r ≡ true → cornerPoint l p i r ≡ accepted (pointAt r (prisms.corner 21 (elementAt prism l p) i))
     unfolding cornerPoint
     point-accepted small inside = simp (le-ltb 21 l shallow, lt-leb (8 ^ l) p below, lt-leb 6 i small, inside)
 
 -- ---- the element at the position
 module _ (l p : ℕ) (shallow : l ≤ 21) (below : p < 8 ^ l) where
-  accepts : Calls.at prism l p ≡ accepted (at prism l p)
+  accepts : Calls.at prism l p ≡ accepted (elementAt prism l p)
   unfolding prismTo
   accepts = at-accepted prism l p shallow below
 
-  pub element-is : (a : PrismAnswer) (e : Prism) → a ≡ Is e → elementOf a ≡ Calls.at prism l p → e ≡ at prism l p
-  element-is a e taken found = same (sym (ap elementOf taken) ∙ found ∙ accepts)
+  pub element-is : (a : PrismAnswer) (e : Prism) → a ≡ Is e → prismOf a ≡ Calls.at prism l p → e ≡ elementAt prism l p
+  element-is a e taken found = same (sym (ap prismOf taken) ∙ found ∙ accepts)
     where
       same : {x y : Prism} → accepted x ≡ accepted y → x ≡ y
       same h = cc
 
-  pub element-never : {A : Type 0} (a : PrismAnswer) (number place : ℕ) → a ≡ Refused number place → elementOf a ≡ Calls.at prism l p → A
-  element-never a number place taken found = absurd (never (sym (ap elementOf taken) ∙ found ∙ accepts))
+  pub element-never : {A : Type 0} (a : PrismAnswer) (number place : ℕ) → a ≡ Refused number place → prismOf a ≡ Calls.at prism l p → A
+  element-never a number place taken found = absurd (never (sym (ap prismOf taken) ∙ found ∙ accepts))
     where
-      never : refused number place ≡ accepted (at prism l p) → ⊥
+      never : refused number place ≡ accepted (elementAt prism l p) → ⊥
       never h = let z : _≡_ {A = ℕ} 0 1 = cc in omega arith
 
-  pub element-sound : Sound prism (at prism l p)
+  pub element-sound : Sound prism (elementAt prism l p)
   unfolding prismTo
   element-sound = at-sound prism (lawful 21) l p shallow below

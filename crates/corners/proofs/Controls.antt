@@ -4,7 +4,7 @@ use mathlib.Core.Bool.{false}
 use lib.IntN.{ℤ, pos, negsuc}
 use lib.Ieee.{Float, fin, round}
 use Rattle.paper.specs.Outcome.{accepted, refused}
-use Rattle.tree.specs.Words.{at}
+use Rattle.tree.specs.Words.{elementAt}
 use Rattle.prism.specs.Elements.{prismTo}
 use Rattle.corners.specs.declared.Corner.{Corner}
 use Rattle.corners.specs.declared.Root.{Root}
@@ -31,7 +31,7 @@ marked =
 
 -- ".. corner 1 of position 6 at level 1 is (50, 50, 20)": 50 is 25·2, 20 is 5·4
 marked-point : cornerPoint 1 6 1 marked ≡ accepted (point (fin false 25 (pos 1)) (fin false 25 (pos 1)) (fin false 5 (pos 2)))
-unfolding cornerPoint at prismTo coordinate round
+unfolding cornerPoint elementAt prismTo coordinate round
 marked-point = refl
 
 -- half way between -100 and 100, three times: +0, not -0
@@ -47,7 +47,7 @@ across =
     }
 
 zero-is-plus : cornerPoint 1 0 1 across ≡ accepted (point (fin false 0 (pos 0)) (fin false 0 (pos 0)) (fin false 0 (pos 0)))
-unfolding cornerPoint at prismTo coordinate round across
+unfolding cornerPoint elementAt prismTo coordinate round across
 zero-is-plus = refl
 
 -- "1, 5, 8, 24": each where the later ones apply too

@@ -13,7 +13,7 @@ use Rattle.tree.proofs.Anchor.{grid-units, end-inside}
 use Rattle.triangle.specs.Points.{Point, point, cornersBy}
 use Rattle.triangle.proofs.Laws.{known-units}
 use Rattle.prism.specs.declared.Prism.{Prism}
-use Rattle.prism.specs.Elements.{prism, prismTo, triangleOf}
+use Rattle.prism.specs.Elements.{prism, prismTo, plan}
 use Rattle.prism.specs.Points as prisms
 use Rattle.prism.proofs.Laws.{grids}
 use Rattle.corners.specs.declared.work.Local.{Local}
@@ -39,7 +39,7 @@ room e sound =
       two-types = plan .typed;
       below = scaled-up (side 21 (e .level)) (e .x / side 21 (e .level)) (e .y / side 21 (e .level)) (e .kind) (e .x) (e .y)
           (grid-units 21 (e .level) (e .x) (plan .grid-x)) (grid-units 21 (e .level) (e .y) (plan .grid-y))
-          (known-units 21 (triangleOf e) plan);
+          (known-units 21 (plan e) plan);
       room-x = end-inside 21 (e .level) (e .x) (plan .shallow) (plan .grid-x);
       room-z = end-inside 21 (e .level) (e .z) (plan .shallow) (known .1);
     }

@@ -8,7 +8,7 @@ use lib.IntN.{ℤ, pos, _*ℤ_}
 use Rattle.paper.specs.Outcome.{Outcome, accepted, refused}
 use Rattle.tree.proofs.RoundTrip.{at-sound}
 use Rattle.prism.proofs.Laws.{lawful}
-use Rattle.tree.specs.Words.{at}
+use Rattle.tree.specs.Words.{elementAt}
 use Rattle.prism.specs.Elements.{prism, prismTo}
 use Rattle.prism.specs.Points as prisms
 use Rattle.corners.specs.declared.Corner.{Corner}
@@ -29,7 +29,7 @@ accepted-same {A} a b e = ap value e
   where
     value : Outcome A → A
     value (accepted x) = x
-    value (refused number at) = a
+    value (refused number place) = a
 
 exact : Exact
 exact =
@@ -52,11 +52,11 @@ small r c near inside =
 -- ---- an answer is as due
 module _ (l p i : ℕ) (r : Root) (a : Point) (shallow : l ≤ 21) (below : p < 8 ^ l) (six : i < 6) (near : rootWithin r ≡ true) where
   abbrev place : prisms.Corner
-  place = prisms.corner 21 (at prism l p) i
+  place = prisms.corner 21 (elementAt prism l p) i
 
   bound : Small r place
   unfolding prismTo
-  bound = small r place near (corner-inside (at prism l p) i (at-sound prism (lawful 21) l p shallow below) six)
+  bound = small r place near (corner-inside (elementAt prism l p) i (at-sound prism (lawful 21) l p shallow below) six)
 
   due : cornerPoint l p i r ≡ accepted a → AsDue r place a
   due h =
@@ -88,8 +88,8 @@ there r X Y Z v weighed =
       z = (ap coordinate (weighed (λ c. c .z)) ∙ whole (v .z)) i;
     }
 
-at-root : (r : Root) (i : ℕ) → i < 6 → pointAt r (prisms.corner 21 (at prism 0 0) i) ≡ pointed (corner r i)
-unfolding at prismTo
+at-root : (r : Root) (i : ℕ) → i < 6 → pointAt r (prisms.corner 21 (elementAt prism 0 0) i) ≡ pointed (corner r i)
+unfolding elementAt prismTo
 at-root r zero h = there r 0 0 0 (r .v0) (λ of. at-0 (λ j. of (corner r j)))
 at-root r (suc zero) h = there r 2097152 0 0 (r .v1) (λ of. at-1 (λ j. of (corner r j)))
 at-root r (suc (suc zero)) h = there r 2097152 2097152 0 (r .v2) (λ of. at-2 (λ j. of (corner r j)))
@@ -103,7 +103,7 @@ own r i near h = point-accepted 0 0 i r (lit≤ tt) (lit< tt) h near ∙ ap acce
 
 -- ---- one point for one local corner
 module _ (l p i m s j : ℕ) (r : Root) (a : l ≤ 21) (b : p < 8 ^ l) (c : i < 6) (d : m ≤ 21) (e : s < 8 ^ m) (f : j < 6)
-    (alike : prisms.corner 21 (at prism l p) i ≡ prisms.corner 21 (at prism m s) j) where
+    (alike : prisms.corner 21 (elementAt prism l p) i ≡ prisms.corner 21 (elementAt prism m s) j) where
   by-root : (t : Bool) → rootWithin r ≡ t → cornerPoint l p i r ≡ cornerPoint m s j r
   by-root true near =
       point-accepted l p i r a b c near ∙ ap (λ (k : prisms.Corner). accepted (pointAt r k)) alike ∙ sym (point-accepted m s j r d e f near)

@@ -21,7 +21,7 @@ use lib.Dec.{leb, ltb}
 use lib.ListN.{getD}
 use lib.Ieee.{Float, binary64, round}
 use Rattle.paper.specs.Outcome.{Outcome, accepted, refused, refuse-when}
-use Rattle.tree.specs.Words.{at}
+use Rattle.tree.specs.Words.{elementAt}
 use Rattle.prism.specs.Elements.{prism}
 use Rattle.prism.specs.Points as prisms
 use Rattle.corners.specs.declared.Corner.{Corner}
@@ -80,7 +80,7 @@ cornerPoint l p i r =
     (refuse-when (leb (8 ^ l) p) 5
     (refuse-when (leb 6 i) 8
     (refuse-when (not (rootWithin r)) 24
-    (accepted (pointAt r (prisms.corner 21 (at prism l p) i))))))
+    (accepted (pointAt r (prisms.corner 21 (elementAt prism l p) i))))))
 
 abbrev pub pointOf : PointAnswer → Outcome Point
 pointOf (Is p) = accepted p

@@ -21,7 +21,7 @@ use lib.Ieee.{Float, binary64, ofInt, fits}
 use lib.Ieee.Exact.{HasValue}
 use Rattle.paper.specs.Outcome.{accepted}
 use Rattle.tree.specs.Laws.{Sound}
-use Rattle.tree.specs.Words.{at}
+use Rattle.tree.specs.Words.{elementAt}
 use Rattle.prism.specs.declared.Prism.{Prism}
 use Rattle.prism.specs.Elements.{prism}
 use Rattle.prism.specs.Points as prisms
@@ -70,14 +70,14 @@ pointed v = record { x = ofInt binary64 (v .x); y = ofInt binary64 (v .y); z = o
 pub record Meaning : Type 0 where
   pub root's-own : (r : Root) (i : ℕ) → rootWithin r ≡ true → i < 6 → cornerPoint 0 0 i r ≡ accepted (pointed (corner r i))
   pub shared : (l p i m s j : ℕ) (r : Root) → l ≤ 21 → p < 8 ^ l → i < 6 → m ≤ 21 → s < 8 ^ m → j < 6
-      → prisms.corner 21 (at prism l p) i ≡ prisms.corner 21 (at prism m s) j
+      → prisms.corner 21 (elementAt prism l p) i ≡ prisms.corner 21 (elementAt prism m s) j
       → cornerPoint l p i r ≡ cornerPoint m s j r
 
 pub record Promised : Type 0 where
   pub accepts : (l p i : ℕ) (r : Root) → l ≤ 21 → p < 8 ^ l → i < 6 → rootWithin r ≡ true
-      → cornerPoint l p i r ≡ accepted (pointAt r (prisms.corner 21 (at prism l p) i))
+      → cornerPoint l p i r ≡ accepted (pointAt r (prisms.corner 21 (elementAt prism l p) i))
   pub answered : (l p i : ℕ) (r : Root) (a : Point) → l ≤ 21 → p < 8 ^ l → i < 6 → rootWithin r ≡ true
-      → cornerPoint l p i r ≡ accepted a ↔ AsDue r (prisms.corner 21 (at prism l p) i) a
+      → cornerPoint l p i r ≡ accepted a ↔ AsDue r (prisms.corner 21 (elementAt prism l p) i) a
   pub exact : Exact
   pub bounded : Bounded
   pub meaning : Meaning

@@ -11,7 +11,7 @@ use lib.Seq.{slice, drop-append-le, drop-cons, length-take-le}
 use borrow.Author.Tests.{ltb-false, eqb-true, not-true, not-false}
 use Rattle.paper.specs.Outcome.{accepted}
 use Rattle.paper.proofs.Scan.{accepted-of}
-use Rattle.leaves.specs.Leaves.{Leaf, Place, place, Covers}
+use Rattle.leaves.specs.Leaves.{Leaf, Spot, spotAt, Covers}
 use Rattle.leaves.specs.Calls.{limit}
 use Rattle.leaves.proofs.Span.{power-pos}
 use Rattle.gridfile.specs.Numbers.{bytesOf, byteAt, Read, read, numberAt}
@@ -37,7 +37,7 @@ number-bytes bs all i r h =
     parted bs i (r .next) (omega (arith, w .2)) (w .1) ∙ ap (λ (xs : List ℕ). xs ++ drop (r .next) bs) (w .3)
 
 module _ (n L K : ℕ) (positive : 0 < n) (bs : List ℕ) where
-  pub record Taken (R i before : ℕ) (c : Place) (N : ℕ) (vs : List Leaf) : Type 0 where
+  pub record Taken (R i before : ℕ) (c : Spot) (N : ℕ) (vs : List Leaf) : Type 0 where
     pub few : N + length vs ≤ limit
     pub many : length (runsOf vs) ≡ R
     pub bytes : Bytes bs → drop i bs ≡ runBytes (runsOf vs)
@@ -45,7 +45,7 @@ module _ (n L K : ℕ) (positive : 0 < n) (bs : List ℕ) where
     pub covers : Covers n L c vs K
 
   -- one run more before the leaves us
-  one-more : (R i before : ℕ) (c : Place) (N : ℕ) (vs : List Leaf) (r : RunRead) → RunTaken n L K bs i before c N r → Proper n L K positive c → (us : List Leaf)
+  one-more : (R i before : ℕ) (c : Spot) (N : ℕ) (vs : List Leaf) (r : RunRead) → RunTaken n L K bs i before c N r → Proper n L K positive c → (us : List Leaf)
       → leavesOf n L c (r .level) (r .count) ++ us ≡ vs → Taken R (r .next) (r .level) (after n L c (r .level) (r .count)) (N + r .count) us → Taken (suc R) i before c N vs
   unfolding runBytes
   one-more R i before c N vs r s proper us same later =
@@ -68,7 +68,7 @@ module _ (n L K : ℕ) (positive : 0 < n) (bs : List ℕ) where
       above : {m : ℕ} → (m ≡ 0 → ⊥) → m ≡ suc (m - 1)
       above {m} none = omega arith
 
-  pub taken : (R i before : ℕ) (c : Place) (N : ℕ) (vs : List Leaf) → N ≤ limit → Proper n L K positive c → runsAt n L bs K R i before c N ≡ accepted vs → Taken R i before c N vs
+  pub taken : (R i before : ℕ) (c : Spot) (N : ℕ) (vs : List Leaf) → N ≤ limit → Proper n L K positive c → runsAt n L bs K R i before c N ≡ accepted vs → Taken R i before c N vs
   unfolding runsAt runsOf runBytes Covers
   taken zero i before c N vs upto proper h =
       let a = accepted-of (not (eqb (c .root) K && eqb (c .cell) 0)) 12 i _ vs h in
@@ -80,7 +80,7 @@ module _ (n L K : ℕ) (positive : 0 < n) (bs : List ℕ) where
         many = refl;
         bytes = λ all. drop-of-length-le bs (ltb-false i (length bs) (b .0));
         other = tt;
-        covers = ap₂ place (eqb-true (c .root) K (full .0)) (eqb-true (c .cell) 0 (full .1));
+        covers = ap₂ spotAt (eqb-true (c .root) K (full .0)) (eqb-true (c .cell) 0 (full .1));
       })
   taken (suc R) i before c N vs upto proper h =
       let one = then-accepted (runAt n L bs K i before c N) (runStep n L K bs R c N) vs (sym (apart n L K bs R i before c N) ∙ h) in
@@ -109,7 +109,7 @@ module _ (n L : ℕ) (positive : 0 < n) where
     pub runs : ℕ
     pub next : ℕ
     pub front : HeadTaken bs (head (g .roots) runs next)
-    pub rest : Taken n L (g .roots) positive bs runs next (suc L) (place 0 0) 0 (g .leaves)
+    pub rest : Taken n L (g .roots) positive bs runs next (suc L) (spotAt 0 0) 0 (g .leaves)
 
   pub file-taken : (bs : List ℕ) (g : Grid) → gridAt n L bs ≡ accepted g → FileTaken bs g
   file-taken bs g e =
@@ -121,7 +121,7 @@ module _ (n L : ℕ) (positive : 0 < n) where
         runs = h .runs;
         next = h .next;
         front = head-taken bs h (top .1 .0);
-        rest = taken n L (h .roots) positive bs (h .runs) (h .next) (suc L) (place 0 0) 0 (grid .0) (omega arith) (power-pos n L positive) (grid .1 .0);
+        rest = taken n L (h .roots) positive bs (h .runs) (h .next) (suc L) (spotAt 0 0) 0 (grid .0) (omega arith) (power-pos n L positive) (grid .1 .0);
       })
 
   pub valid-grid : (bs : List ℕ) (g : Grid) → gridAt n L bs ≡ accepted g → ValidGrid n L g

@@ -6,7 +6,7 @@ use native.Mathlib.Nat.{add-zero, zero-add}
 use native.Mathlib.Omega.{arith}
 use lib.ListN.{length, length-append}
 use Rattle.paper.specs.Outcome.{Outcome, accepted, refused, mapped}
-use Rattle.leaves.specs.Leaves.{Leaf, Place, place}
+use Rattle.leaves.specs.Leaves.{Leaf, Spot, spotAt}
 use Rattle.leaves.specs.Calls.{limit}
 use Rattle.leaves.proofs.Span.{power-pos}
 use Rattle.gridfile.specs.Reading.{leavesOf, after, RunRead, runAt, runsAt, afterLast}
@@ -28,7 +28,7 @@ ended-refused N number at e = sym (ap (counted N) e)
 pub ended-accepted : (N : ℕ) {o : Outcome (List Leaf)} → o ≡ accepted [] → accepted N ≡ counted N o
 ended-accepted N e = ap accepted (sym (add-zero N)) ∙ sym (ap (counted N) e)
 
-module _ (n L K : ℕ) (bs : List ℕ) (R i before : ℕ) (c : Place) (N : ℕ) where
+module _ (n L K : ℕ) (bs : List ℕ) (R i before : ℕ) (c : Spot) (N : ℕ) where
   -- one run more
   pub count-more : (r : RunRead) → runAt n L bs K i before c N ≡ accepted r
       → counted N (runsAt n L bs K (suc R) i before c N) ≡ counted (N + r .count) (runsAt n L bs K R (r .next) (r .level) (after n L c (r .level) (r .count)) (N + r .count))
@@ -52,22 +52,22 @@ counted-none (refused number at) = refl
 
 module _ (n L K : ℕ) (positive : 0 < n) (bs : List ℕ) (R₀ i₀ : ℕ) where
   -- R runs are left at offset i, where the list has come to c with N leaves
-  pub record Going (R i before : ℕ) (c : Place) (N : ℕ) : Type 0 where
-    pub same : counted 0 (runsAt n L bs K R₀ i₀ (suc L) (place 0 0) 0) ≡ counted N (runsAt n L bs K R i before c N)
+  pub record Going (R i before : ℕ) (c : Spot) (N : ℕ) : Type 0 where
+    pub same : counted 0 (runsAt n L bs K R₀ i₀ (suc L) (spotAt 0 0) 0) ≡ counted N (runsAt n L bs K R i before c N)
     pub few : N ≤ limit
     pub low : c .root ≤ K
     pub proper : c .cell < n ^ L
 
-  pub going-start : Going R₀ i₀ (suc L) (place 0 0) 0
+  pub going-start : Going R₀ i₀ (suc L) (spotAt 0 0) 0
   going-start = record { same = refl; few = omega arith; low = omega arith; proper = power-pos n L positive }
 
-  module _ (R i before : ℕ) (c : Place) (N : ℕ) (g : Going R i before c N) where
+  module _ (R i before : ℕ) (c : Spot) (N : ℕ) (g : Going R i before c N) where
     pub going-more : 0 < R → (r : RunRead) → runAt n L bs K i before c N ≡ accepted r
-        → (d : Place) → d ≡ after n L c (r .level) (r .count) → Going (R - 1) (r .next) (r .level) d (N + r .count)
+        → (d : Spot) → d ≡ after n L c (r .level) (r .count) → Going (R - 1) (r .next) (r .level) d (N + r .count)
     going-more some r is d ends =
         let t = run-taken n L K bs i before c N r is in
         let one : R ≡ suc (R - 1) = omega arith in
-        subst⁻¹ (λ (e : Place). Going (R - 1) (r .next) (r .level) e (N + r .count)) ends
+        subst⁻¹ (λ (e : Spot). Going (R - 1) (r .next) (r .level) e (N + r .count)) ends
         (record {
           same = g .same ∙ ap (λ (m : ℕ). counted N (runsAt n L bs K m i before c N)) one ∙ count-more n L K bs (R - 1) i before c N r is;
           few = t .few;
@@ -76,13 +76,13 @@ module _ (n L K : ℕ) (positive : 0 < n) (bs : List ℕ) (R₀ i₀ : ℕ) wher
         })
 
     pub going-stops : 0 < R → (number at : ℕ) → runAt n L bs K i before c N ≡ refused number at
-        → refused number at ≡ mapped (λ (vs : List Leaf). length vs) (runsAt n L bs K R₀ i₀ (suc L) (place 0 0) 0)
+        → refused number at ≡ mapped (λ (vs : List Leaf). length vs) (runsAt n L bs K R₀ i₀ (suc L) (spotAt 0 0) 0)
     going-stops some number at is =
         let one : R ≡ suc (R - 1) = omega arith in
-        sym (sym (counted-none (runsAt n L bs K R₀ i₀ (suc L) (place 0 0) 0)) ∙ g .same ∙ ap (λ (m : ℕ). counted N (runsAt n L bs K m i before c N)) one ∙ count-stops n L K bs (R - 1) i before c N number at is)
+        sym (sym (counted-none (runsAt n L bs K R₀ i₀ (suc L) (spotAt 0 0) 0)) ∙ g .same ∙ ap (λ (m : ℕ). counted N (runsAt n L bs K m i before c N)) one ∙ count-stops n L K bs (R - 1) i before c N number at is)
 
-    pub going-ends : R ≤ 0 → counted N (afterLast bs K i c) ≡ mapped (λ (vs : List Leaf). length vs) (runsAt n L bs K R₀ i₀ (suc L) (place 0 0) 0)
+    pub going-ends : R ≤ 0 → counted N (afterLast bs K i c) ≡ mapped (λ (vs : List Leaf). length vs) (runsAt n L bs K R₀ i₀ (suc L) (spotAt 0 0) 0)
     unfolding runsAt
     going-ends none =
         let done : R ≡ 0 = omega arith in
-        sym (sym (counted-none (runsAt n L bs K R₀ i₀ (suc L) (place 0 0) 0)) ∙ g .same ∙ ap (λ (m : ℕ). counted N (runsAt n L bs K m i before c N)) done)
+        sym (sym (counted-none (runsAt n L bs K R₀ i₀ (suc L) (spotAt 0 0) 0)) ∙ g .same ∙ ap (λ (m : ℕ). counted N (runsAt n L bs K m i before c N)) done)

@@ -9,24 +9,24 @@ use native.Mathlib.Decide.{ℕ-discrete}
 use native.Mathlib.Omega.{arith}
 use lib.Dec.{ltb, eqb}
 use borrow.Author.Tests.{ltb-true, eqb-true, eq-eqb, ne-eqb}
-use Rattle.leaves.specs.Leaves.{Leaf, Place, place, span, past, startOf, endOf, Covers}
+use Rattle.leaves.specs.Leaves.{Leaf, Spot, spotAt, span, past, startOf, endOf, Covers}
 use Rattle.leaves.proofs.Span.{power-pos, fill, past-le, end-last, end-within}
 use Rattle.gridfile.specs.File.{Run, run, joinRun, runsOf, Differs}
 use Rattle.gridfile.specs.Reading.{next, fits, leavesOf, after}
 
 module _ (n L K : ℕ) (positive : 0 < n) where
   -- a cell of a root
-  abbrev pub Proper : Place → Type 0
+  abbrev pub Proper : Spot → Type 0
   Proper c = c .cell < n ^ L
 
-  module _ (c : Place) (l : ℕ) (proper : Proper c) (shallow : l ≤ L) where
+  module _ (c : Spot) (l : ℕ) (proper : Proper c) (shallow : l ≤ L) where
     next-below : next n L c l .position < n ^ l
     next-below = div-lt-iff-lt-mul (power-pos n (L - l) positive) .1 (omega (arith, fill n L l shallow))
 
     next-starts : c .cell % span n L l ≡ 0 → startOf n L (next n L c l) ≡ c
     next-starts whole =
         let same : c .cell / span n L l * span n L l ≡ c .cell = omega (arith, div-add-mod' (c .cell) (span n L l)) in
-        ap (place (c .root)) same
+        ap (spotAt (c .root)) same
 
     end-proper : Proper (endOf n L (next n L c l))
     end-proper = by (ℕ-discrete (past n L (next n L c l)) (n ^ L))
@@ -36,12 +36,12 @@ module _ (n L K : ℕ) (positive : 0 < n) where
         by (no within) =
             subst Proper (sym (end-within n L (next n L c l) within)) (let upto = past-le n L (next n L c l) shallow next-below in omega arith)
 
-  pub after-proper : (c : Place) (l k : ℕ) → Proper c → l ≤ L → Proper (after n L c l k)
+  pub after-proper : (c : Spot) (l k : ℕ) → Proper c → l ≤ L → Proper (after n L c l k)
   unfolding after
   after-proper c l zero proper shallow = proper
   after-proper c l (suc k) proper shallow = after-proper (endOf n L (next n L c l)) l k (end-proper c l proper shallow) shallow
 
-  pub fits-covers : (c : Place) (l k : ℕ) (vs : List Leaf) → Proper c → l ≤ L → fits n L K c l k ≡ true → Covers n L (after n L c l k) vs K
+  pub fits-covers : (c : Spot) (l k : ℕ) (vs : List Leaf) → Proper c → l ≤ L → fits n L K c l k ≡ true → Covers n L (after n L c l k) vs K
       → Covers n L c (leavesOf n L c l k ++ vs) K
   unfolding Covers fits leavesOf after
   fits-covers c l zero vs proper shallow fit f = f
@@ -60,7 +60,7 @@ pub first-run : (l : ℕ) (rs : List Run) → Differs l rs → joinRun l rs ≡ 
 first-run l [] other = refl
 first-run l (r ∷ rs) other = simp (ne-eqb l (r .level) other)
 
-pub run-of : (n L : ℕ) (c : Place) (l k : ℕ) (vs : List Leaf) → Differs l (runsOf vs) → runsOf (leavesOf n L c l (suc k) ++ vs) ≡ run l (suc k) ∷ runsOf vs
+pub run-of : (n L : ℕ) (c : Spot) (l k : ℕ) (vs : List Leaf) → Differs l (runsOf vs) → runsOf (leavesOf n L c l (suc k) ++ vs) ≡ run l (suc k) ∷ runsOf vs
 unfolding runsOf leavesOf
 run-of n L c l zero vs other = first-run l (runsOf vs) other
 run-of n L c l (suc k) vs other =

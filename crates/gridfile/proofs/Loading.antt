@@ -8,7 +8,7 @@ use lib.Dec.{ltb, eqb}
 use lib.ListN.{length}
 use borrow.Author.Tests.{lt-ltb, le-ltb, eqb-true}
 use Rattle.paper.specs.Outcome.{Outcome, accepted, refused, mapped}
-use Rattle.leaves.specs.Leaves.{Leaf, place}
+use Rattle.leaves.specs.Leaves.{Leaf, spotAt}
 use Rattle.leaves.specs.Calls.{equalColumns}
 use Rattle.leaves.specs.Stretch.{Passed}
 use Rattle.gridfile.specs.Reading.{and-then, Grid, Head, headAt, headed, fitted, runsAt, reading}
@@ -60,7 +60,7 @@ module _ (bs : List ℕ) (K R i : ℕ) (room : ℕ) where
   front = record { roots = K; runs = R; next = i }
 
   abbrev runs : Outcome (List Leaf)
-  runs = runsAt 8 21 bs K R i 22 (place 0 0) 0
+  runs = runsAt 8 21 bs K R i 22 (spotAt 0 0) 0
 
   pub unsound : (number at : ℕ) → refused number at ≡ mapped (λ (vs : List Leaf). length vs) runs → and-then (headed 8 21 bs front) (fitted room) ≡ refused number at
   unsound number at e =

@@ -7,7 +7,7 @@ use native.Mathlib.Omega.{arith}
 use lib.ListN.{length, length-append}
 use borrow.Author.Tests.{le-ltb, eq-eqb, ne-eqb}
 use Rattle.paper.specs.Outcome.{Outcome, accepted, mapped}
-use Rattle.leaves.specs.Leaves.{Leaf, Place, place, Valid}
+use Rattle.leaves.specs.Leaves.{Leaf, Spot, spotAt, Valid}
 use Rattle.leaves.proofs.Entries.{some-leaf}
 use Rattle.leaves.specs.Calls.{limit}
 use Rattle.gridfile.specs.Numbers.{highest, bytesOf, Read, read, numberAt}
@@ -18,7 +18,7 @@ use Rattle.gridfile.proofs.Runs.{Reads, reads-of, leaves-count, runs-fe
 
 module _ (n L K : ℕ) (bs : List ℕ) where
   -- ---- one run
-  run-is : (i before : ℕ) (c : Place) (N : ℕ) (l k : Read) → numberAt bs i ≡ accepted l → numberAt bs (l .next) ≡ accepted k
+  run-is : (i before : ℕ) (c : Spot) (N : ℕ) (l k : Read) → numberAt bs i ≡ accepted l → numberAt bs (l .next) ≡ accepted k
       → l .value ≤ L → (before ≡ l .value → ⊥) → 0 < k .value → N + k .value ≤ limit → fits n L K c (l .value) (k .value) ≡ true
       → runAt n L bs K i before c N ≡ accepted (runRead (l .value) (k .value) (k .next))
   run-is i before c N l k level count shallow other some few fit =
@@ -28,29 +28,29 @@ module _ (n L K : ℕ) (bs : List ℕ) where
       ∙ simp (ne-eqb (k .value) 0 (λ none. omega arith), le-ltb limit (N + k .value) few, fit))
 
   -- what follows a run
-  abbrev pub runStep : ℕ → Place → ℕ → RunRead → Outcome (List Leaf)
+  abbrev pub runStep : ℕ → Spot → ℕ → RunRead → Outcome (List Leaf)
   runStep R c N r =
       mapped (λ (vs : List Leaf). leavesOf n L c (r .level) (r .count) ++ vs)
       (runsAt n L bs K R (r .next) (r .level) (after n L c (r .level) (r .count)) (N + r .count))
 
-  pub apart : (R i before : ℕ) (c : Place) (N : ℕ) → runsAt n L bs K (suc R) i before c N ≡ and-then (runAt n L bs K i before c N) (runStep R c N)
+  pub apart : (R i before : ℕ) (c : Spot) (N : ℕ) → runsAt n L bs K (suc R) i before c N ≡ and-then (runAt n L bs K i before c N) (runStep R c N)
   unfolding runsAt
   apart R i before c N = refl
 
-  one-run : (R i before : ℕ) (c : Place) (N : ℕ) (r : RunRead) → runAt n L bs K i before c N ≡ accepted r → runsAt n L bs K (suc R) i before c N ≡ runStep R c N r
+  one-run : (R i before : ℕ) (c : Spot) (N : ℕ) (r : RunRead) → runAt n L bs K i before c N ≡ accepted r → runsAt n L bs K (suc R) i before c N ≡ runStep R c N r
   one-run R i before c N r is = apart R i before c N ∙ ap (λ (o : Outcome RunRead). and-then o (runStep R c N)) is
 
-  no-run : (i before : ℕ) (c : Place) (N : ℕ) → c ≡ place K 0 → length bs ≤ i → runsAt n L bs K 0 i before c N ≡ accepted []
+  no-run : (i before : ℕ) (c : Spot) (N : ℕ) → c ≡ spotAt K 0 → length bs ≤ i → runsAt n L bs K 0 i before c N ≡ accepted []
   unfolding runsAt
   no-run i before c N full past =
       simp (
-        eq-eqb (c .root) K (ap (λ (p : Place). p .root) full),
-        eq-eqb (c .cell) 0 (ap (λ (p : Place). p .cell) full),
+        eq-eqb (c .root) K (ap (λ (p : Spot). p .root) full),
+        eq-eqb (c .cell) 0 (ap (λ (p : Spot). p .cell) full),
         le-ltb i (length bs) past,
       )
 
   -- ---- all runs
-  runs-read : (positive : 0 < n) → L ≤ highest → (rs : List Run) (vs : List Leaf) (pre : List ℕ) (before : ℕ) (c : Place) (N : ℕ)
+  runs-read : (positive : 0 < n) → L ≤ highest → (rs : List Run) (vs : List Leaf) (pre : List ℕ) (before : ℕ) (c : Spot) (N : ℕ)
       → bs ≡ pre ++ runBytes rs → Differs before rs → N + length vs ≤ limit → Reads n L K positive c rs vs
       → runsAt n L bs K (length rs) (length pre) before c N ≡ accepted vs
   unfolding Reads runBytes
@@ -78,7 +78,7 @@ module _ (n L K : ℕ) (bs : List ℕ) where
       ∙ ap accepted (sym (f .4 .1 .0))
 
 -- the first run is of a level
-first-differs : (n L K : ℕ) (positive : 0 < n) (c : Place) (rs : List Run) (vs : List Leaf) → Reads n L K positive c rs vs → Differs (suc L) rs
+first-differs : (n L K : ℕ) (positive : 0 < n) (c : Spot) (rs : List Run) (vs : List Leaf) → Reads n L K positive c rs vs → Differs (suc L) rs
 unfolding Reads
 first-differs n L K positive c [] vs f = tt
 first-differs n L K positive c (r ∷ rs) vs f = λ same. omega (arith, f .0)
@@ -100,7 +100,7 @@ module _ (n L : ℕ) (positive : 0 < n) (low : L ≤ highest) where
       let roots : numberAt bs 4 ≡ accepted (read K (4 + length (bytesOf K))) = codec .read-written tag (bytesOf R ++ runBytes rs) K (omega arith) in
       let runs : numberAt bs (4 + length (bytesOf K)) ≡ accepted (read R (length pre1 + length (bytesOf R))) =
       ap (numberAt bs) (sym (length-append tag (bytesOf K))) ∙ ap (λ (b : List ℕ). numberAt b (length pre1)) whole1 ∙ codec .read-written pre1 (runBytes rs) R (omega arith) in
-      let f = reads-of n L K positive (place 0 0) vs valid in
+      let f = reads-of n L K positive (spotAt 0 0) vs valid in
       let some-run = runs-some vs (some-leaf n L K vs some valid) in
       let top : headAt bs ≡ accepted (head K R (length pre1 + length (bytesOf R))) =
       opened (bytesOf K ++ (bytesOf R ++ runBytes rs))
@@ -110,5 +110,5 @@ module _ (n L : ℕ) (positive : 0 < n) (low : L ≤ highest) where
       ∙ simp (ne-eqb R 0 (λ none. omega arith), le-ltb limit R (omega arith))) in
       ap (λ (o : Outcome Head). and-then o (headed n L bs)) top
       ∙ ap (mapped (λ (us : List Leaf). record { roots = K; leaves = us }))
-      (ap (λ (i : ℕ). runsAt n L bs K R i (suc L) (place 0 0) 0) (sym (length-append pre1 (bytesOf R)))
-      ∙ runs-read n L K bs positive low rs vs pre2 (suc L) (place 0 0) 0 whole2 (first-differs n L K positive (place 0 0) rs vs f) (omega arith) f)
+      (ap (λ (i : ℕ). runsAt n L bs K R i (suc L) (spotAt 0 0) 0) (sym (length-append pre1 (bytesOf R)))
+      ∙ runs-read n L K bs positive low rs vs pre2 (suc L) (spotAt 0 0) 0 whole2 (first-differs n L K positive (spotAt 0 0) rs vs f) (omega arith) f)

@@ -11,28 +11,28 @@ use native.Mathlib.Omega.{arith}
 use lib.Dec.{eqb}
 use lib.ListN.{length}
 use borrow.Author.Tests.{lt-ltb, eq-eqb, ne-eqb}
-use Rattle.leaves.specs.Leaves.{Leaf, leaf, Place, place, span, startOf, endOf, Covers}
+use Rattle.leaves.specs.Leaves.{Leaf, leaf, Spot, spotAt, span, startOf, endOf, Covers}
 use Rattle.leaves.proofs.Span.{power-pos}
 use Rattle.gridfile.specs.File.{Run, run, joinRun, runsOf, Differs}
 use Rattle.gridfile.specs.Reading.{next, fits, leavesOf, after}
 
 module _ (n L K : ℕ) (positive : 0 < n) where
   -- the runs rs are read from c on as the leaves vs, to the end of the last root
-  unfoldable pub Reads : Place → List Run → List Leaf → Type 0
-  Reads c [] vs = (vs ≡ []) × (c ≡ place K 0)
+  unfoldable pub Reads : Spot → List Run → List Leaf → Type 0
+  Reads c [] vs = (vs ≡ []) × (c ≡ spotAt K 0)
   Reads c (r ∷ rs) vs =
       (r .level ≤ L) × (0 < r .count) × (fits n L K c (r .level) (r .count) ≡ true) × Differs (r .level) rs
       × ((rest : List Leaf) × ((vs ≡ leavesOf n L c (r .level) (r .count) ++ rest) × Reads (after n L c (r .level) (r .count)) rs rest))
 
   -- a leaf that starts at c
-  module _ (c : Place) (v : Leaf) (starts : startOf n L v ≡ c) where
+  module _ (c : Spot) (v : Leaf) (starts : startOf n L v ≡ c) where
     next-is : next n L c (v .level) ≡ v
     next-is =
-        ap₂ (λ (r q : ℕ). leaf r (v .level) (q / span n L (v .level))) (sym (ap (λ (p : Place). p .root) starts)) (sym (ap (λ (p : Place). p .cell) starts))
+        ap₂ (λ (r q : ℕ). leaf r (v .level) (q / span n L (v .level))) (sym (ap (λ (p : Spot). p .root) starts)) (sym (ap (λ (p : Spot). p .cell) starts))
         ∙ ap (leaf (v .root) (v .level)) (mul-div-cancel (v .position) (power-pos n (L - v .level) positive))
 
     no-rest : c .cell % span n L (v .level) ≡ 0
-    no-rest = ap (λ (q : ℕ). q % span n L (v .level)) (sym (ap (λ (p : Place). p .cell) starts)) ∙ mul-mod-left (v .position) (span n L (v .level))
+    no-rest = ap (λ (q : ℕ). q % span n L (v .level)) (sym (ap (λ (p : Spot). p .cell) starts)) ∙ mul-mod-left (v .position) (span n L (v .level))
 
     module _ (shallow : v .level ≤ L) (inside : v .root < K) (vs : List Leaf) where
       -- k leaves more of its level after it
@@ -40,7 +40,7 @@ module _ (n L K : ℕ) (positive : 0 < n) where
       unfolding fits
       fits-more k later =
           simp (
-            lt-ltb (c .root) K (subst (λ (r : ℕ). r < K) (ap (λ (p : Place). p .root) starts) inside),
+            lt-ltb (c .root) K (subst (λ (r : ℕ). r < K) (ap (λ (p : Spot). p .root) starts) inside),
             eq-eqb (c .cell % span n L (v .level)) 0 no-rest,
           ) (ap (λ (u : Leaf). fits n L K (endOf n L u) (v .level) k) next-is ∙ later)
 
@@ -60,7 +60,7 @@ module _ (n L K : ℕ) (positive : 0 < n) where
         omega arith,
         fits-more 0 refl,
         other,
-        (vs, (sym (ap (λ (us : List Leaf). us ++ vs) (leaves-more 0)), subst (λ (d : Place). Reads d rs vs) (sym (after-more 0)) f)),
+        (vs, (sym (ap (λ (us : List Leaf). us ++ vs) (leaves-more 0)), subst (λ (d : Spot). Reads d rs vs) (sym (after-more 0)) f)),
       )
 
       -- one leaf more in the first run
@@ -75,7 +75,7 @@ module _ (n L K : ℕ) (positive : 0 < n) where
           f .4 .0,
           (
             ap (λ (us : List Leaf). v ∷ us) (f .4 .1 .0) ∙ sym (ap (λ (us : List Leaf). us ++ f .4 .0) (leaves-more k)),
-            subst (λ (d : Place). Reads d rs (f .4 .0)) (sym (after-more k)) (f .4 .1 .1),
+            subst (λ (d : Spot). Reads d rs (f .4 .0)) (sym (after-more k)) (f .4 .1 .1),
           ),
         ),
       )
@@ -91,12 +91,12 @@ module _ (n L K : ℕ) (positive : 0 < n) where
           by (no other) =
               subst (λ (us : List Run). Reads c us (v ∷ vs)) (sym (simp (ne-eqb (v .level) (r .level) other))) (alone (r ∷ rs) other f)
 
-  pub reads-of : (c : Place) (vs : List Leaf) → Covers n L c vs K → Reads c (runsOf vs) vs
+  pub reads-of : (c : Spot) (vs : List Leaf) → Covers n L c vs K → Reads c (runsOf vs) vs
   unfolding Covers runsOf Reads
   reads-of c [] f = (refl, f)
   reads-of c (v ∷ vs) f = joined c v (f .2) (f .0) (f .3) vs (runsOf vs) (reads-of (endOf n L v) vs (f .4))
 
-pub leaves-count : (n L : ℕ) (c : Place) (l k : ℕ) → length (leavesOf n L c l k) ≡ k
+pub leaves-count : (n L : ℕ) (c : Spot) (l k : ℕ) → length (leavesOf n L c l k) ≡ k
 unfolding leavesOf
 leaves-count n L c l zero = refl
 leaves-count n L c l (suc k) = ap suc (leaves-count n L (endOf n L (next n L c l)) l k)

@@ -1,4 +1,4 @@
--- Where a run ends, as the code's shifts find it: a place that a leaf of level l may start at is so many leaves of the level into its root.
+-- Where a run ends, as the code's shifts find it: a spot that a leaf of level l may start at is so many leaves of the level into its root.
 -- Assumes nothing.
 use mathlib.Core.Path.{_≡_, refl, ap, ap₂, _∙_, sym, subst⁻¹}
 use mathlib.Core.Bool.{Bool, true, false, true≢false, _&&_}
@@ -11,7 +11,7 @@ use lib.Pow.{pow-pos}
 use borrow.Author.Tests.{ne-eqb}
 use Rattle.tree.proofs.Digits.{power-bits}
 use Rattle.paper.specs.Outcome.{rows}
-use Rattle.leaves.specs.Leaves.{leaf, Place, place, span}
+use Rattle.leaves.specs.Leaves.{leaf, Spot, spotAt, span}
 use Rattle.leaves.proofs.Span.{power-pos, fill}
 use Rattle.leaves.proofs.Shift.{bits-le, bits-left, root-cells, shifted}
 use Rattle.leaves.proofs.Filling.{each-is}
@@ -19,7 +19,7 @@ use Rattle.gridfile.specs.Passes.{upto}
 use Rattle.gridfile.specs.Reading.{fits, leavesOf, after}
 use Rattle.gridfile.proofs.Units.{moved, after-moved, leaves-moved, fits-moved}
 
-module _ (n L l K : ℕ) (positive : 0 < n) (shallow : l ≤ L) (c : Place) where
+module _ (n L l K : ℕ) (positive : 0 < n) (shallow : l ≤ L) (c : Spot) where
   -- a leaf can't start at a cell that is not divisible by what it holds
   pub fits-not : (k : ℕ) → (k ≡ 0 → ⊥) → (c .cell % span n L l ≡ 0 → ⊥) → fits n L K c l k ≡ false
   unfolding fits
@@ -49,18 +49,18 @@ module _ (n L l K : ℕ) (positive : 0 < n) (shallow : l ≤ L) (c : Place) wher
     is-moved =
         let same : c .cell / span n L l * span n L l ≡ c .cell = omega (arith, div-add-mod' (c .cell) (span n L l)) in
         let root : c .root + c .cell / span n L l / n ^ l ≡ c .root = omega (arith, div-eq-of-lt units-below) in
-        ap₂ place root (ap (λ (q : ℕ). q * span n L l) (mod-eq-of-lt units-below) ∙ same)
+        ap₂ spotAt root (ap (λ (q : ℕ). q * span n L l) (mod-eq-of-lt units-below) ∙ same)
 
     pub after-is : (k : ℕ) → after n L c l k ≡ moved n L l positive shallow (c .root) (c .cell / span n L l + k)
-    after-is k = ap (λ (d : Place). after n L d l k) (sym is-moved) ∙ after-moved n L l positive shallow (c .root) (c .cell / span n L l) k
+    after-is k = ap (λ (d : Spot). after n L d l k) (sym is-moved) ∙ after-moved n L l positive shallow (c .root) (c .cell / span n L l) k
 
     pub leaves-are : (k : ℕ) → leavesOf n L c l k ≡ rows (λ t. leaf (c .root + t / n ^ l) l (t % n ^ l)) (c .cell / span n L l) k
-    leaves-are k = ap (λ (d : Place). leavesOf n L d l k) (sym is-moved) ∙ leaves-moved n L l positive shallow (c .root) (c .cell / span n L l) k
+    leaves-are k = ap (λ (d : Spot). leavesOf n L d l k) (sym is-moved) ∙ leaves-moved n L l positive shallow (c .root) (c .cell / span n L l) k
 
     pub fits-is : (k : ℕ) → (k ≡ 0 → ⊥) → fits n L K c l k ≡ upto K (after n L c l k)
     fits-is zero some = absurd (some refl)
     fits-is (suc k) some =
-        ap (λ (d : Place). fits n L K d l (suc k)) (sym is-moved)
+        ap (λ (d : Spot). fits n L K d l (suc k)) (sym is-moved)
         ∙ fits-moved n L l positive shallow K (c .root) (c .cell / span n L l) k
         ∙ ap (upto K) (sym (after-is (suc k)))
 
@@ -102,8 +102,8 @@ module _ (b L l : ℕ) (narrow : b * L ≤ 63) (shallow : l ≤ L) where
         omega (arith, root-cells b L narrow, div-le-self q (2 ^ (b * (L - l))), div-le-self (q / 2 ^ (b * (L - l)) + k) (2 ^ (b * l)))
 
     pub after-spot : q % span (2 ^ b) L l ≡ 0
-        → place (r + (q / 2 ^ (b * (L - l)) + k) / 2 ^ (b * l)) ((q / 2 ^ (b * (L - l)) + k) % (1 * 2 ^ (b * l) % 2 ^ 64) * 2 ^ (b * (L - l)) % 2 ^ 64)
-        ≡ after (2 ^ b) L (place r q) l k
+        → spotAt (r + (q / 2 ^ (b * (L - l)) + k) / 2 ^ (b * l)) ((q / 2 ^ (b * (L - l)) + k) % (1 * 2 ^ (b * l) % 2 ^ 64) * 2 ^ (b * (L - l)) % 2 ^ 64)
+        ≡ after (2 ^ b) L (spotAt r q) l k
     after-spot whole =
         let u = q / 2 ^ (b * (L - l)) + k in
         let each : 2 ^ (b * l) ≡ (2 ^ b) ^ l = sym (power-bits b l) in
@@ -111,9 +111,9 @@ module _ (b L l : ℕ) (narrow : b * L ≤ 63) (shallow : l ≤ L) where
         let rest : u % (1 * 2 ^ (b * l) % 2 ^ 64) * 2 ^ (b * (L - l)) % 2 ^ 64 ≡ u % (2 ^ b) ^ l * span (2 ^ b) L l =
         ap (λ (m : ℕ). u % m * 2 ^ (b * (L - l)) % 2 ^ 64) level-is
         ∙ shifted b L narrow (u % (2 ^ b) ^ l) l shallow (below (mod-lt u (power-pos (2 ^ b) l (pow-pos b)))) in
-        ap₂ place (ap (λ (m : ℕ). r + u / m) each) rest
-        ∙ ap (λ (x : ℕ). place (r + x / (2 ^ b) ^ l) (x % (2 ^ b) ^ l * span (2 ^ b) L l)) units
-        ∙ sym (after-is (2 ^ b) L l 0 (pow-pos b) shallow (place r q) proper whole k)
+        ap₂ spotAt (ap (λ (m : ℕ). r + u / m) each) rest
+        ∙ ap (λ (x : ℕ). spotAt (r + x / (2 ^ b) ^ l) (x % (2 ^ b) ^ l * span (2 ^ b) L l)) units
+        ∙ sym (after-is (2 ^ b) L l 0 (pow-pos b) shallow (spotAt r q) proper whole k)
       where
         below : {x m : ℕ} → x < m → x ≤ m
         below {x} {m} less = omega arith

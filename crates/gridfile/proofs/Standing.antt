@@ -10,7 +10,7 @@ use lib.ListN.{length, length-append, List·getD-append}
 use borrow.Author.Tests.{leb-false, lt-leb, ltb-true, ltb-false, lt-ltb, le-ltb, not-true}
 use Rattle.paper.specs.Outcome.{Outcome, accepted, refused, refuse-when-at, mapped}
 use Rattle.paper.proofs.Scan.{never}
-use Rattle.leaves.specs.Leaves.{Leaf, Place, place}
+use Rattle.leaves.specs.Leaves.{Leaf, Spot, spotAt}
 use Rattle.gridfile.specs.Numbers.{Read, read, byteAt, numberAt}
 use Rattle.leaves.specs.Calls.{outOfRange}
 use Rattle.gridfile.specs.Reading.{and-then, opens, Head, afterRuns, afterRoots, headAt, headed, afterLast, leavesOf, after, RunRead, afterCount, afterLevel, runAt, runsAt, gridAt}
@@ -93,14 +93,14 @@ module _ (bs more : List ℕ) where
 
   -- ---- runs
   module _ (n L K : ℕ) where
-    pub run-stands : (i before : ℕ) (c : Place) (N : ℕ) → Settled (runAt n L bs K i before c N) → runAt n L (bs ++ more) K i before c N ≡ runAt n L bs K i before c N
+    pub run-stands : (i before : ℕ) (c : Spot) (N : ℕ) → Settled (runAt n L bs K i before c N) → runAt n L (bs ++ more) K i before c N ≡ runAt n L bs K i before c N
     run-stands i before c N =
         then-stands (numberAt bs i) (numberAt (bs ++ more) i) (afterLevel n L bs K i before c N) (afterLevel n L (bs ++ more) K i before c N) (number-stands i) (λ l.
         when-wrong (ltb L (l .value)) 1 i _ _ (when-wrong (eqb before (l .value)) 21 i _ _
         (then-stands (numberAt bs (l .next)) (numberAt (bs ++ more) (l .next)) (afterCount n L K i c N l) (afterCount n L K i c N l) (number-stands (l .next)) (λ k s. refl))))
 
     -- after the last run: ground or bytes left
-    last-stands : (i : ℕ) (c : Place) (number at : ℕ) → afterLast bs K i c ≡ refused number at → afterLast (bs ++ more) K i c ≡ refused number at
+    last-stands : (i : ℕ) (c : Spot) (number at : ℕ) → afterLast bs K i c ≡ refused number at → afterLast (bs ++ more) K i c ≡ refused number at
     last-stands i c number at e = by (not (eqb (c .root) K && eqb (c .cell) 0)) (ltb i (length bs)) refl e
       where
         leftover : Bool → Bool → Outcome (List Leaf)
@@ -113,7 +113,7 @@ module _ (bs more : List ℕ) where
             ap (leftover false) (lt-ltb i (length (bs ++ more)) (omega (arith, longer))) ∙ e′
         by false false is e′ = never [] number at (sym e′)
 
-    pub runs-stand : (R i before : ℕ) (c : Place) (N number at : ℕ) → (number ≡ 19 → ⊥) → runsAt n L bs K R i before c N ≡ refused number at
+    pub runs-stand : (R i before : ℕ) (c : Spot) (N number at : ℕ) → (number ≡ 19 → ⊥) → runsAt n L bs K R i before c N ≡ refused number at
         → runsAt n L (bs ++ more) K R i before c N ≡ refused number at
     unfolding runsAt
     runs-stand zero i before c N number at there e = last-stands i c number at e
@@ -176,7 +176,7 @@ module _ (bs more : List ℕ) where
             let rest = sym (then-is (headAt bs) (headed n L bs) h is) ∙ e in
             then-is (headAt (bs ++ more)) (headed n L (bs ++ more)) h (head-stands open-tag (subst Settled (sym is) tt) ∙ is)
             ∙ ap (mapped (λ (vs : List Leaf). record { roots = h .roots; leaves = vs }))
-            (runs-stand n L (h .roots) (h .runs) (h .next) (suc L) (place 0 0) 0 number at there (mapped-refused (λ (vs : List Leaf). record { roots = h .roots; leaves = vs }) _ number at (sym rest)))
+            (runs-stand n L (h .roots) (h .runs) (h .next) (suc L) (spotAt 0 0) 0 number at there (mapped-refused (λ (vs : List Leaf). record { roots = h .roots; leaves = vs }) _ number at (sym rest)))
         by (refused m j) is =
             let same : _≡_ {A = Outcome _} (refused m j) (refused number at) = sym (then-stops (headAt bs) (headed n L bs) m j is) ∙ e in
             then-stops (headAt (bs ++ more)) (headed n L (bs ++ more)) m j (head-stands open-tag (subst Settled (sym is) (λ missing. there (sym (ap numberOf same) ∙ missing))) ∙ is)

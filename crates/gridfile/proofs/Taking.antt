@@ -9,7 +9,7 @@ use borrow.Author.Tests.{ltb-false, eqb-false, not-false}
 use Rattle.paper.specs.Outcome.{Outcome, accepted, refused, mapped}
 use Rattle.paper.proofs.Tests.{or-none}
 use Rattle.paper.proofs.Scan.{never, accepted-of}
-use Rattle.leaves.specs.Leaves.{Place}
+use Rattle.leaves.specs.Leaves.{Spot}
 use Rattle.leaves.specs.Calls.{limit, outOfRange}
 use Rattle.gridfile.specs.Numbers.{read, numberAt}
 use Rattle.gridfile.specs.Reading.{and-then, opens, Head, head, afterRuns, afterRoots, headAt, fits, RunRead, runRead, afterCount, afterLevel, runAt}
@@ -34,7 +34,7 @@ mapped-accepted g (refused number at) b h = never b number at h
 -- ---- one run
 module _ (n L K : ℕ) (bs : List ℕ) where
   -- what an accepted run is
-  pub record RunTaken (i before : ℕ) (c : Place) (N : ℕ) (r : RunRead) : Type 0 where
+  pub record RunTaken (i before : ℕ) (c : Spot) (N : ℕ) (r : RunRead) : Type 0 where
     pub after-level : ℕ
     pub level : numberAt bs i ≡ accepted (read (r .level) after-level)
     pub count : numberAt bs after-level ≡ accepted (read (r .count) (r .next))
@@ -44,7 +44,7 @@ module _ (n L K : ℕ) (bs : List ℕ) where
     pub few : N + r .count ≤ limit
     pub fit : fits n L K c (r .level) (r .count) ≡ true
 
-  pub run-taken : (i before : ℕ) (c : Place) (N : ℕ) (r : RunRead) → runAt n L bs K i before c N ≡ accepted r → RunTaken i before c N r
+  pub run-taken : (i before : ℕ) (c : Spot) (N : ℕ) (r : RunRead) → runAt n L bs K i before c N ≡ accepted r → RunTaken i before c N r
   run-taken i before c N r h =
       let level = then-accepted (numberAt bs i) (afterLevel n L bs K i before c N) r h in
       let l = level .0 in

@@ -7,7 +7,7 @@ use lib.Dec.{ltb, eqb}
 use lib.ListN.{length}
 use borrow.Author.Tests.{lt-ltb, le-ltb, eq-eqb, ne-eqb}
 use Rattle.paper.specs.Outcome.{Outcome, accepted, refused, refuse-when-at}
-use Rattle.leaves.specs.Leaves.{Place}
+use Rattle.leaves.specs.Leaves.{Spot}
 use Rattle.leaves.specs.Calls.{limit}
 use Rattle.gridfile.specs.Numbers.{Read, byteAt, numberAt}
 use Rattle.gridfile.specs.Reading.{and-then, opens, head, afterRuns, afterRoots, headAt, afterLast, fits, runRead, afterCount, afterLevel}
@@ -85,7 +85,7 @@ module _ (bs : List ℕ) where
     roots-refused number at e = passes (not (opens bs)) 18 0 _ (ap not tagged) ∙ then-stops (numberAt bs 4) (afterRoots bs) number at e
 
 -- ---- a run
-module _ (n L K i : ℕ) (c : Place) (N : ℕ) (l : Read) where
+module _ (n L K i : ℕ) (c : Spot) (N : ℕ) (l : Read) where
   module _ (k : Read) where
     pub no-leaf : k .value ≡ 0 → afterCount n L K i c N l k ≡ refused 21 (l .next)
     no-leaf none = stops (eqb (k .value) 0) 21 (l .next) _ (eq-eqb (k .value) 0 none)
@@ -123,7 +123,7 @@ module _ (n L K i : ℕ) (c : Place) (N : ℕ) (l : Read) where
         count-refused number at e = level-passes ∙ then-stops (numberAt bs (l .next)) (afterCount n L K i c N l) number at e
 
 -- ---- after the last run
-module _ (bs : List ℕ) (K i : ℕ) (c : Place) where
+module _ (bs : List ℕ) (K i : ℕ) (c : Spot) where
   pub root-left : (c .root ≡ K → ⊥) → afterLast bs K i c ≡ refused 12 i
   root-left other = simp (ne-eqb (c .root) K other)
 

@@ -8,7 +8,7 @@ use lib.Dec.{ltb, eqb}
 use lib.ListN.{length, length-append}
 use Rattle.paper.specs.Outcome.{accepted}
 use Rattle.paper.proofs.Scan.{accepted-of}
-use Rattle.leaves.specs.Leaves.{Leaf, Place, place, span}
+use Rattle.leaves.specs.Leaves.{Leaf, Spot, spotAt, span}
 use Rattle.leaves.specs.Calls.{limit}
 use Rattle.leaves.specs.Stretch.{Ran, Passed}
 use Rattle.leaves.proofs.Span.{power-pos}
@@ -25,7 +25,7 @@ use Rattle.gridfile.proofs.ReadBack.{runStep, apart}
 
 module _ (n L K : ℕ) (positive : 0 < n) (bs : List ℕ) (vs : List Leaf) (roots levels positions : List ℕ) where
   -- R runs are left at offset i, where the list has come to c with N leaves written
-  pub record Underway (R i : ℕ) (c : Place) (N : ℕ) (rs ls ps : List ℕ) : Type 0 where
+  pub record Underway (R i : ℕ) (c : Spot) (N : ℕ) (rs ls ps : List ℕ) : Type 0 where
     pub before : ℕ
     pub done : List Leaf
     pub rest : List Leaf
@@ -36,7 +36,7 @@ module _ (n L K : ℕ) (positive : 0 < n) (bs : List ℕ) (vs : List Leaf) (root
     pub proper : c .cell < n ^ L
     pub filled : Passed done roots levels positions rs ls ps
 
-  pub underway-start : (R i : ℕ) → runsAt n L bs K R i (suc L) (place 0 0) 0 ≡ accepted vs → Underway R i (place 0 0) 0 roots levels positions
+  pub underway-start : (R i : ℕ) → runsAt n L bs K R i (suc L) (spotAt 0 0) 0 ≡ accepted vs → Underway R i (spotAt 0 0) 0 roots levels positions
   underway-start R i all =
       record {
         before = suc L;
@@ -51,16 +51,16 @@ module _ (n L K : ℕ) (positive : 0 < n) (bs : List ℕ) (vs : List Leaf) (root
       }
 
   -- what one turn finds: a run of ct leaves of level lv, and what follows it at nx
-  pub record Turn (R i : ℕ) (c : Place) (N : ℕ) (rs ls ps : List ℕ) (lv ct nx : ℕ) : Type 0 where
+  pub record Turn (R i : ℕ) (c : Spot) (N : ℕ) (rs ls ps : List ℕ) (lv ct nx : ℕ) : Type 0 where
     pub shallow : lv ≤ L
     pub few : N + ct ≤ limit
     pub whole : c .cell % span n L lv ≡ 0
     pub root-after : after n L c lv ct .root ≤ K
     pub room : N + ct ≤ length vs
-    pub more : {rs′ ls′ ps′ : List ℕ} → length vs ≤ length roots → length vs ≤ length levels → length vs ≤ length positions → (d : Place) → d ≡ after n L c lv ct
+    pub more : {rs′ ls′ ps′ : List ℕ} → length vs ≤ length roots → length vs ≤ length levels → length vs ≤ length positions → (d : Spot) → d ≡ after n L c lv ct
         → Ran N (leavesOf n L c lv ct) rs ls ps rs′ ls′ ps′ → Underway (R - 1) nx d (N + ct) rs′ ls′ ps′
 
-  module _ (R i : ℕ) (c : Place) (N : ℕ) (rs ls ps : List ℕ) (u : Underway R i c N rs ls ps) where
+  module _ (R i : ℕ) (c : Spot) (N : ℕ) (rs ls ps : List ℕ) (u : Underway R i c N rs ls ps) where
     done-few : length (u .done) ≤ length vs
     done-few = omega (arith, ap length (u .split), length-append (u .done) (u .rest))
 
@@ -92,7 +92,7 @@ module _ (n L K : ℕ) (positive : 0 < n) (bs : List ℕ) (vs : List Leaf) (root
           root-after = upto;
           room = omega (arith, u .counted, size);
           more = λ {rs′} {ls′} {ps′} r-room l-room p-room d is ran.
-              subst⁻¹ (λ (e : Place). Underway (R - 1) (r .next) e (N + r .count) rs′ ls′ ps′) is
+              subst⁻¹ (λ (e : Spot). Underway (R - 1) (r .next) e (N + r .count) rs′ ls′ ps′) is
               (record {
                 before = r .level;
                 done = u .done ++ run;

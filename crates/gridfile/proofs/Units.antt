@@ -11,7 +11,7 @@ use native.Mathlib.Omega.{arith}
 use lib.Dec.{ltb, eqb}
 use borrow.Author.Tests.{lt-ltb, le-ltb, eq-eqb, ne-eqb}
 use Rattle.paper.specs.Outcome.{rows}
-use Rattle.leaves.specs.Leaves.{Leaf, leaf, Place, place, span, past, endOf}
+use Rattle.leaves.specs.Leaves.{Leaf, leaf, Spot, spotAt, span, past, endOf}
 use Rattle.leaves.proofs.Span.{power-pos, fill, more-mul, quotient, rest, end-last, end-within}
 use Rattle.gridfile.specs.Passes.{upto}
 use Rattle.gridfile.specs.Reading.{next, fits, leavesOf, after}
@@ -27,22 +27,22 @@ quotient-order m a b some less = by (decLt (b / m) (a / m))
     by (no upto) = omega arith
 
 -- ---- not past the last root
-pub upto-within : (K : ℕ) (c : Place) → c .root < K → upto K c ≡ true
+pub upto-within : (K : ℕ) (c : Spot) → c .root < K → upto K c ≡ true
 upto-within K c inside = simp (lt-ltb (c .root) K inside)
 
-pub upto-full : (K : ℕ) (c : Place) → c .root ≡ K → c .cell ≡ 0 → upto K c ≡ true
+pub upto-full : (K : ℕ) (c : Spot) → c .root ≡ K → c .cell ≡ 0 → upto K c ≡ true
 upto-full K c full none = simp (le-ltb (c .root) K (omega arith), eq-eqb (c .root) K full, eq-eqb (c .cell) 0 none)
 
-pub upto-past : (K : ℕ) (c : Place) → K < c .root → upto K c ≡ false
+pub upto-past : (K : ℕ) (c : Spot) → K < c .root → upto K c ≡ false
 upto-past K c past = simp (le-ltb (c .root) K (omega arith), ne-eqb (c .root) K (λ same. omega arith))
 
-pub upto-over : (K : ℕ) (c : Place) → c .root ≡ K → (c .cell ≡ 0 → ⊥) → upto K c ≡ false
+pub upto-over : (K : ℕ) (c : Spot) → c .root ≡ K → (c .cell ≡ 0 → ⊥) → upto K c ≡ false
 upto-over K c full some = simp (le-ltb (c .root) K (omega arith), eq-eqb (c .root) K full, ne-eqb (c .cell) 0 some)
 
-pub upto-last : (K : ℕ) (c : Place) → c .root ≡ K → eqb (c .cell) 0 ≡ upto K c
+pub upto-last : (K : ℕ) (c : Spot) → c .root ≡ K → eqb (c .cell) 0 ≡ upto K c
 upto-last K c full = sym (simp (le-ltb (c .root) K (omega arith), eq-eqb (c .root) K full))
 
-pub upto-root : (K : ℕ) (c : Place) → upto K c ≡ true → c .root ≤ K
+pub upto-root : (K : ℕ) (c : Spot) → upto K c ≡ true → c .root ≤ K
 upto-root K c within = by (decLt K (c .root))
   where
     by : Dec (K < c .root) → c .root ≤ K
@@ -54,8 +54,8 @@ module _ (n L l : ℕ) (positive : 0 < n) (shallow : l ≤ L) where
   each = n ^ l
 
   -- u leaves of the level after the start of root r
-  abbrev pub moved : ℕ → ℕ → Place
-  moved r u = place (r + u / each) (u % each * span n L l)
+  abbrev pub moved : ℕ → ℕ → Spot
+  moved r u = spotAt (r + u / each) (u % each * span n L l)
 
   some-each : 0 < each
   some-each = power-pos n l positive
@@ -96,19 +96,19 @@ module _ (n L l : ℕ) (positive : 0 < n) (shallow : l ≤ L) where
       by (yes last) =
           let whole : r + u / each + 1 ≡ r + (u + 1) / each = omega (arith, last-quotient u last) in
           end-last n L v (ap (λ (q : ℕ). q * span n L l) last ∙ fill n L l shallow)
-          ∙ ap₂ place whole (sym (zero-mul (span n L l)) ∙ ap (λ (q : ℕ). q * span n L l) (sym (last-rest u last)))
+          ∙ ap₂ spotAt whole (sym (zero-mul (span n L l)) ∙ ap (λ (q : ℕ). q * span n L l) (sym (last-rest u last)))
       by (no within) =
           let less : u % each + 1 + 1 ≤ each = omega (arith, still u within) in
           let room = mul-le-mul-right (span n L l) less in
           let same : r + u / each ≡ r + (u + 1) / each = omega (arith, within-quotient u within) in
           end-within n L v (λ full. omega (arith, full, room, more-mul (u % each + 1) (span n L l), fill n L l shallow, some-span))
-          ∙ ap₂ place same (ap (λ (q : ℕ). q * span n L l) (sym (within-rest u within)))
+          ∙ ap₂ spotAt same (ap (λ (q : ℕ). q * span n L l) (sym (within-rest u within)))
 
   pub after-moved : (r u k : ℕ) → after n L (moved r u) l k ≡ moved r (u + k)
   unfolding after
   after-moved r u zero = ap (moved r) (sym (add-zero u))
   after-moved r u (suc k) =
-      ap (λ (c : Place). after n L c l k) (end-moved r u)
+      ap (λ (c : Spot). after n L c l k) (end-moved r u)
       ∙ after-moved r (u + 1) k
       ∙ ap (moved r) (ap (λ (m : ℕ). m + k) (add-one u) ∙ suc-add u k ∙ sym (add-suc u k))
 
@@ -117,7 +117,7 @@ module _ (n L l : ℕ) (positive : 0 < n) (shallow : l ≤ L) where
   leaves-moved r u zero = refl
   leaves-moved r u (suc k) =
       ap₂ (λ (v : Leaf) (vs : List Leaf). v ∷ vs) (next-moved r u)
-      (ap (λ (c : Place). leavesOf n L c l k) (end-moved r u)
+      (ap (λ (c : Spot). leavesOf n L c l k) (end-moved r u)
       ∙ leaves-moved r (u + 1) k
       ∙ ap (λ (m : ℕ). rows (λ t. leaf (r + t / each) l (t % each)) m k) (add-one u))
 
@@ -170,7 +170,7 @@ module _ (n L l : ℕ) (positive : 0 < n) (shallow : l ≤ L) where
       by (yes inside) = simp (lt-ltb (r + u / each) K inside, eq-eqb (u % each * span n L l % span n L l) 0 (no-rest r u)) (sym (ends-upto K r u inside))
       by (no past) = simp (le-ltb (r + u / each) K (omega arith)) (sym (begins-past K r u (omega arith) (u + 1) (omega arith)))
   fits-moved K r u (suc k) =
-      ap (λ (c : Place). ltb (r + u / each) K && (eqb (u % each * span n L l % span n L l) 0 && fits n L K c l (suc k))) (end-moved r u)
+      ap (λ (c : Spot). ltb (r + u / each) K && (eqb (u % each * span n L l % span n L l) 0 && fits n L K c l (suc k))) (end-moved r u)
       ∙ ap (λ (b : Bool). ltb (r + u / each) K && (eqb (u % each * span n L l % span n L l) 0 && b)) (fits-moved K r (u + 1) k ∙ ap (λ (m : ℕ). upto K (moved r m)) sum)
       ∙ by (decLt (r + u / each) K)
     where

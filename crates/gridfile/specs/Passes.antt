@@ -1,8 +1,8 @@
 -- The two passes over a file as the code makes them, and what its answers stand for. Definitions only.
 --
---   upto K c         the place c is not past the last of K roots
+--   upto K c         the spot c is not past the last of K roots
 --   headOf, runOf    the outcomes that an Opening and a RunAnswer stand for
---   spotOf           the place that a Spot stands for
+--   spotOf           the spot that a Cursor stands for
 --   listOf o         the leaves of an accepted outcome
 --   PairAt, CountAt  a pair that was read at offset i: where a level and a count stand there, it is these
 --
@@ -13,16 +13,16 @@ use mathlib.Core.List.{List, []}
 use Prim.Native.Nat.{ℕ, _<_}
 use lib.Dec.{ltb, eqb}
 use Rattle.paper.specs.Outcome.{Outcome, accepted, refused}
-use Rattle.leaves.specs.Leaves.{Leaf, Place, place}
+use Rattle.leaves.specs.Leaves.{Leaf, Spot, spotAt}
 use Rattle.gridfile.specs.Numbers.{Read, numberAt}
 use Rattle.gridfile.specs.Reading.{Head, head, RunRead, runRead}
 use Rattle.gridfile.specs.declared.Opening.{Opening}
 use Rattle.gridfile.specs.declared.RunAnswer.{RunAnswer}
-use Rattle.gridfile.specs.declared.Spot.{Spot}
+use Rattle.gridfile.specs.declared.Cursor.{Cursor}
 use Rattle.gridfile.specs.declared.Opening.the-variants as opening
 use Rattle.gridfile.specs.declared.RunAnswer.the-variants as run
 
-abbrev pub upto : ℕ → Place → Bool
+abbrev pub upto : ℕ → Spot → Bool
 upto K c = ltb (c .root) K || (eqb (c .root) K && eqb (c .cell) 0)
 
 abbrev pub headOf : Opening → Outcome Head
@@ -33,8 +33,8 @@ abbrev pub runOf : RunAnswer → Outcome RunRead
 runOf (run.Is level count next) = accepted (runRead level count next)
 runOf (run.Refused number at) = refused number at
 
-abbrev pub spotOf : Spot → Place
-spotOf s = place (s .root) (s .cell)
+abbrev pub spotOf : Cursor → Spot
+spotOf s = spotAt (s .root) (s .cell)
 
 abbrev pub listOf : Outcome (List Leaf) → List Leaf
 listOf (accepted vs) = vs

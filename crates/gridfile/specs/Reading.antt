@@ -28,7 +28,7 @@ use Prim.Native.Nat.{ℕ, zero, suc, _+_, _/_, _%_}
 use lib.Dec.{ltb, eqb}
 use lib.ListN.{length}
 use Rattle.paper.specs.Outcome.{Outcome, accepted, refused, refuse-when, refuse-when-at, mapped}
-use Rattle.leaves.specs.Leaves.{Leaf, leaf, Place, place, span, endOf}
+use Rattle.leaves.specs.Leaves.{Leaf, leaf, Spot, spotAt, span, endOf}
 use Rattle.leaves.specs.Calls.{limit, outOfRange}
 use Rattle.gridfile.specs.Numbers.{Read, numberAt, byteAt}
 use Rattle.gridfile.specs.File.{tag}
@@ -79,7 +79,7 @@ pub record RunRead : Type 0 where
 abbrev pub runRead : ℕ → ℕ → ℕ → RunRead
 runRead l k j = record { level = l; count = k; next = j }
 
-abbrev pub afterLast : List ℕ → ℕ → ℕ → Place → Outcome (List Leaf)
+abbrev pub afterLast : List ℕ → ℕ → ℕ → Spot → Outcome (List Leaf)
 afterLast bs K i c =
     refuse-when-at (not (eqb (c .root) K && eqb (c .cell) 0)) 12 i
     (refuse-when-at (ltb i (length bs)) 22 i
@@ -91,38 +91,38 @@ fitted room g =
     (accepted g)
 
 module _ (n L : ℕ) where
-  abbrev pub next : Place → ℕ → Leaf
+  abbrev pub next : Spot → ℕ → Leaf
   next c l = leaf (c .root) l (c .cell / span n L l)
 
-  unfoldable pub fits : ℕ → Place → ℕ → ℕ → Bool
+  unfoldable pub fits : ℕ → Spot → ℕ → ℕ → Bool
   fits K c l zero = true
   fits K c l (suc k) = ltb (c .root) K && (eqb (c .cell % span n L l) 0 && fits K (endOf n L (next c l)) l k)
 
-  unfoldable pub leavesOf : Place → ℕ → ℕ → List Leaf
+  unfoldable pub leavesOf : Spot → ℕ → ℕ → List Leaf
   leavesOf c l zero = []
   leavesOf c l (suc k) = next c l ∷ leavesOf (endOf n L (next c l)) l k
 
-  unfoldable pub after : Place → ℕ → ℕ → Place
+  unfoldable pub after : Spot → ℕ → ℕ → Spot
   after c l zero = c
   after c l (suc k) = after (endOf n L (next c l)) l k
 
-  abbrev pub afterCount : ℕ → ℕ → Place → ℕ → Read → Read → Outcome RunRead
+  abbrev pub afterCount : ℕ → ℕ → Spot → ℕ → Read → Read → Outcome RunRead
   afterCount K i c N l k =
       refuse-when-at (eqb (k .value) 0) 21 (l .next)
       (refuse-when-at (ltb limit (N + k .value)) 15 (l .next)
       (refuse-when-at (not (fits K c (l .value) (k .value))) 12 i
       (accepted (runRead (l .value) (k .value) (k .next)))))
 
-  abbrev pub afterLevel : List ℕ → ℕ → ℕ → ℕ → Place → ℕ → Read → Outcome RunRead
+  abbrev pub afterLevel : List ℕ → ℕ → ℕ → ℕ → Spot → ℕ → Read → Outcome RunRead
   afterLevel bs K i before c N l =
       refuse-when-at (ltb L (l .value)) 1 i
       (refuse-when-at (eqb before (l .value)) 21 i
       (and-then (numberAt bs (l .next)) (afterCount K i c N l)))
 
-  abbrev pub runAt : List ℕ → ℕ → ℕ → ℕ → Place → ℕ → Outcome RunRead
+  abbrev pub runAt : List ℕ → ℕ → ℕ → ℕ → Spot → ℕ → Outcome RunRead
   runAt bs K i before c N = and-then (numberAt bs i) (afterLevel bs K i before c N)
 
-  unfoldable pub runsAt : List ℕ → ℕ → ℕ → ℕ → ℕ → Place → ℕ → Outcome (List Leaf)
+  unfoldable pub runsAt : List ℕ → ℕ → ℕ → ℕ → ℕ → Spot → ℕ → Outcome (List Leaf)
   runsAt bs K zero i before c N = afterLast bs K i c
   runsAt bs K (suc R) i before c N =
       and-then (runAt bs K i before c N) (λ (r : RunRead).
@@ -132,7 +132,7 @@ module _ (n L : ℕ) where
   abbrev pub headed : List ℕ → Head → Outcome Grid
   headed bs h =
       mapped (λ (vs : List Leaf). record { roots = h .roots; leaves = vs })
-      (runsAt bs (h .roots) (h .runs) (h .next) (suc L) (place 0 0) 0)
+      (runsAt bs (h .roots) (h .runs) (h .next) (suc L) (spotAt 0 0) 0)
 
   abbrev pub gridAt : List ℕ → Outcome Grid
   gridAt bs = and-then (headAt bs) (headed bs)

@@ -1,14 +1,14 @@
 // The second pass over the runs of a sound file: their leaves, written into three columns run by run.
+use crate::Cursor;
 use crate::NumberRead;
 use crate::Pair;
-use crate::Spot;
 use crate::number;
 use crate::walk;
 ghost use mathlib.Core.Path.{_≡_};
 ghost use Prim.Native.Nat.{suc, _+_, _*_, _%_, _^_, _≤_, _<_};
 ghost use lib.ListN.{length};
 ghost use Rattle.paper.specs.Outcome.{accepted};
-ghost use Rattle.leaves.specs.Leaves.{place, span};
+ghost use Rattle.leaves.specs.Leaves.{spotAt, span};
 ghost use Rattle.leaves.specs.Stretch.{Ran, Passed};
 ghost use Rattle.gridfile.specs.Reading as reading;
 ghost use Rattle.gridfile.specs.Reading.{leavesOf, runsAt};
@@ -26,11 +26,11 @@ pub(crate) fn columns(
     levels: &mut [u8],
     positions: &mut [u64],
 )
-    requires { ⌜ (0 < bits) × ((bits * highest ≤ 63) × ((k ≤ 4096) × ((length (now roots) ≡ length (now levels)) × ((length (now roots) ≡ length (now positions)) × ((length (listOf (runsAt (2 ^ bits) highest (now bytes) k runs at (suc highest) (place 0 0) 0)) ≤ length (now roots)) × (runsAt (2 ^ bits) highest (now bytes) k runs at (suc highest) (place 0 0) 0 ≡ accepted (listOf (runsAt (2 ^ bits) highest (now bytes) k runs at (suc highest) (place 0 0) 0)))))))) ⌝ }
-    ensures { λ _. ⌜ Passed (listOf (runsAt (2 ^ bits) highest (now (bytes .entry)) k runs at (suc highest) (place 0 0) 0)) (now (roots .entry)) (now (levels .entry)) (now (positions .entry)) (now (roots .exit)) (now (levels .exit)) (now (positions .exit)) ⌝ }
+    requires { ⌜ (0 < bits) × ((bits * highest ≤ 63) × ((k ≤ 4096) × ((length (now roots) ≡ length (now levels)) × ((length (now roots) ≡ length (now positions)) × ((length (listOf (runsAt (2 ^ bits) highest (now bytes) k runs at (suc highest) (spotAt 0 0) 0)) ≤ length (now roots)) × (runsAt (2 ^ bits) highest (now bytes) k runs at (suc highest) (spotAt 0 0) 0 ≡ accepted (listOf (runsAt (2 ^ bits) highest (now bytes) k runs at (suc highest) (spotAt 0 0) 0)))))))) ⌝ }
+    ensures { λ _. ⌜ Passed (listOf (runsAt (2 ^ bits) highest (now (bytes .entry)) k runs at (suc highest) (spotAt 0 0) 0)) (now (roots .entry)) (now (levels .entry)) (now (positions .entry)) (now (roots .exit)) (now (levels .exit)) (now (positions .exit)) ⌝ }
 {
     let mut at = at;
-    let mut spot = Spot { root: 0, cell: 0 };
+    let mut spot = Cursor { root: 0, cell: 0 };
     let mut size = 0;
     let mut left = runs;
     while 0 < left {
@@ -87,7 +87,7 @@ fn run(
     highest: u8,
     level: u8,
     count: u32,
-    spot: Spot,
+    spot: Cursor,
     at: usize,
     roots: &mut [u16],
     levels: &mut [u8],

@@ -39,7 +39,7 @@ pub enum RunAnswer {
 }
 
 // Where a list has come to: a root, and a smallest cell of it.
-pub struct Spot {
+pub struct Cursor {
     pub root: u64,
     pub cell: u64,
 }

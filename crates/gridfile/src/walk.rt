@@ -1,7 +1,7 @@
 // The first pass over the runs of a file: how far it is sound. A run is tested without being expanded, counted in leaves of its own level.
+use crate::Cursor;
 use crate::NumberRead;
 use crate::RunAnswer;
-use crate::Spot;
 use crate::number;
 use paper::NumberAnswer;
 ghost use mathlib.Core.Path.{_≡_};
@@ -10,7 +10,7 @@ ghost use Prim.Native.Nat.{suc, _+_, _-_, _*_, _%_, _^_, _≤_, _<_};
 ghost use lib.ListN.{length};
 ghost use Rattle.paper.specs.Outcome.{mapped};
 ghost use Rattle.paper.specs.Readings.{valueOf};
-ghost use Rattle.leaves.specs.Leaves.{Leaf, place, span};
+ghost use Rattle.leaves.specs.Leaves.{Leaf, spotAt, span};
 ghost use Rattle.gridfile.specs.Numbers.{read};
 ghost use Rattle.gridfile.specs.Reading as reading;
 ghost use Rattle.gridfile.specs.Reading.{afterCount, afterLevel, afterLast, runAt, runsAt};
@@ -26,11 +26,11 @@ pub(crate) fn sound(
     bytes: &[u8],
 ) -> NumberAnswer
     requires { ⌜ (0 < bits) × ((bits * highest ≤ 63) × (k ≤ 4096)) ⌝ }
-    ensures { λ r. ⌜ valueOf r ≡ mapped (λ (vs : List Leaf). length vs) (runsAt (2 ^ bits) highest (now (bytes .entry)) k runs at (suc highest) (place 0 0) 0) ⌝ }
+    ensures { λ r. ⌜ valueOf r ≡ mapped (λ (vs : List Leaf). length vs) (runsAt (2 ^ bits) highest (now (bytes .entry)) k runs at (suc highest) (spotAt 0 0) 0) ⌝ }
 {
     let mut at = at;
     let mut before = highest + 1;
-    let mut spot = Spot { root: 0, cell: 0 };
+    let mut spot = Cursor { root: 0, cell: 0 };
     let mut leaves = 0;
     let mut left = runs;
     while 0 < left {
@@ -51,7 +51,7 @@ pub(crate) fn sound(
 }
 
 // After the last run: 12 where ground is left, 22 where bytes are.
-fn ended(k: u16, spot: Spot, leaves: u64, at: usize, bytes: &[u8]) -> NumberAnswer
+fn ended(k: u16, spot: Cursor, leaves: u64, at: usize, bytes: &[u8]) -> NumberAnswer
     ensures { λ r. ⌜ valueOf r ≡ mapped (λ (vs : List Leaf). leaves + length vs) (afterLast (now (bytes .entry)) k at (spotOf spot)) ⌝ }
 {
     if spot.root != k as u64 {
@@ -72,7 +72,7 @@ fn run_at(
     highest: u8,
     k: u16,
     before: u8,
-    spot: Spot,
+    spot: Cursor,
     leaves: u64,
     at: usize,
     bytes: &[u8],
@@ -103,7 +103,7 @@ fn after_level(
     highest: u8,
     k: u16,
     before: u8,
-    spot: Spot,
+    spot: Cursor,
     leaves: u64,
     at: usize,
     level: u32,
@@ -141,7 +141,7 @@ fn after_count(
     bits: u8,
     highest: u8,
     k: u16,
-    spot: Spot,
+    spot: Cursor,
     leaves: u64,
     at: usize,
     level: u8,
@@ -167,8 +167,8 @@ fn after_count(
     RunAnswer::Is(level, count, next)
 }
 
-// Whether a place is not past the last root.
-fn within(k: u16, spot: Spot) -> bool
+// Whether a spotAt is not past the last root.
+fn within(k: u16, spot: Cursor) -> bool
     ensures { λ r. ⌜ r ≡ upto k (spotOf spot) ⌝ }
 {
     if spot.root < k as u64 {
@@ -181,14 +181,14 @@ fn within(k: u16, spot: Spot) -> bool
 }
 
 // Where so many leaves of a level end that start at a place: counted in leaves of the level, then whole roots and the leaves after them.
-pub(crate) fn after(bits: u8, highest: u8, level: u8, count: u32, spot: Spot) -> Spot
+pub(crate) fn after(bits: u8, highest: u8, level: u8, count: u32, spot: Cursor) -> Cursor
     requires { ⌜ (0 < bits) × ((bits * highest ≤ 63) × ((level ≤ highest) × ((spot .root ≤ 4096) × ((spot .cell < (2 ^ bits) ^ highest) × (spot .cell % span (2 ^ bits) highest level ≡ 0))))) ⌝ }
     ensures { λ r. ⌜ spotOf r ≡ reading.after (2 ^ bits) highest (spotOf spot) level count ⌝ }
 {
     let narrow = bits * (highest - level);
     let wide = bits * level;
     let end = (spot.cell >> narrow) + count as u64;
-    Spot {
+    Cursor {
         root: spot.root + (end >> wide),
         cell: (end % (1u64 << wide)) << narrow,
     }

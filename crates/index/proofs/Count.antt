@@ -11,7 +11,7 @@ use native.Mathlib.Decide.{decLt}
 use native.Mathlib.Omega.{arith}
 use lib.ListN.{length}
 use Rattle.tree.specs.Shape.{Shape}
-use Rattle.tree.specs.Words.{at, position}
+use Rattle.tree.specs.Words.{elementAt, position}
 use Rattle.tree.specs.Laws.{Sound, Lawful}
 use Rattle.tree.proofs.RoundTrip.{at-sound, at-level, position-at, position-lt, at-position}
 use Rattle.index.specs.Rank.{Before, Ranked}
@@ -35,28 +35,28 @@ module _ {E : Type 0} (S : Shape E) where
   -- the elements of level l at the positions below k
   earlier : ℕ → ℕ → List E
   earlier l zero = []
-  earlier l (suc k) = at S l k ∷ earlier l k
+  earlier l (suc k) = elementAt S l k ∷ earlier l k
 
   earlier-length : (l k : ℕ) → length (earlier l k) ≡ k
   unfolding earlier
   earlier-length l zero = refl
   earlier-length l (suc k) = ap suc (earlier-length l k)
 
-  earlier-all : (l k p : ℕ) → p < k → List·Memᴰ (at S l p) (earlier l k)
+  earlier-all : (l k p : ℕ) → p < k → List·Memᴰ (elementAt S l p) (earlier l k)
   unfolding earlier
   earlier-all l zero p below = absurd (omega arith)
   earlier-all l (suc k) p below = decide (decLt p k) (earlier-all l k p)
     where
-      decide : Dec (p < k) → (p < k → List·Memᴰ (at S l p) (earlier l k)) → List·Memᴰ (at S l p) (at S l k ∷ earlier l k)
+      decide : Dec (p < k) → (p < k → List·Memᴰ (elementAt S l p) (earlier l k)) → List·Memᴰ (elementAt S l p) (elementAt S l k ∷ earlier l k)
       decide (yes less) rest = List·Memᴰ·tail (rest less)
-      decide (no last) rest = let equal : p ≡ k = omega arith in List·Memᴰ·head (ap (at S l) equal)
+      decide (no last) rest = let equal : p ≡ k = omega arith in List·Memᴰ·head (ap (elementAt S l) equal)
 
-  earlier-only : (l k : ℕ) (f : E) → List·Memᴰ f (earlier l k) → (p : ℕ) × (p < k × f ≡ at S l p)
+  earlier-only : (l k : ℕ) (f : E) → List·Memᴰ f (earlier l k) → (p : ℕ) × (p < k × f ≡ elementAt S l p)
   unfolding earlier
   earlier-only l zero f m = absurd (List·Memᴰ·not-nil m)
   earlier-only l (suc k) f m =
-      ⊎-elim {C = (p : ℕ) × (p < suc k × f ≡ at S l p)}
-      (λ (e : f ≡ at S l k). (k, (omega arith, e)))
+      ⊎-elim {C = (p : ℕ) × (p < suc k × f ≡ elementAt S l p)}
+      (λ (e : f ≡ elementAt S l k). (k, (omega arith, e)))
       (λ (n : List·Memᴰ f (earlier l k)). let r = earlier-only l k f n in (r .0, (omega (arith, r .1 .0), r .1 .1)))
       (List·Memᴰ·cases-cons m)
 
@@ -64,19 +64,19 @@ module _ {E : Type 0} (S : Shape E) where
     -- the place decides the element
     pub place-injective : (e f : E) → Sound S e → Sound S f → S .level e ≡ S .level f → position S e ≡ position S f → e ≡ f
     place-injective e f ok fine level place =
-        sym (at-position S W e ok) ∙ ap₂ (at S) level place ∙ at-position S W f fine
+        sym (at-position S W e ok) ∙ ap₂ (elementAt S) level place ∙ at-position S W f fine
 
     earlier-once : (l k : ℕ) → l ≤ S .highest → k ≤ S .children ^ l → List·Nodup (earlier l k)
     unfolding earlier
     earlier-once l zero shallow within = nodup-nil
     earlier-once l (suc k) shallow within = nodup-cons .1 (fresh, earlier-once l k shallow (omega arith))
       where
-        fresh : ¬ List·Mem (at S l k) (earlier l k)
+        fresh : ¬ List·Mem (elementAt S l k) (earlier l k)
         fresh m =
             ∥∥₁-elim m ⊥-prop λ d.
-            let r = earlier-only l k (at S l k) d in
+            let r = earlier-only l k (elementAt S l k) d in
             let p = r .0 in
-            let back : position S (at S l k) ≡ position S (at S l p) = ap (position S) (r .1 .1) in
+            let back : position S (elementAt S l k) ≡ position S (elementAt S l p) = ap (position S) (r .1 .1) in
             omega (arith, r .1 .0, position-at S W l k shallow within, position-at S W l p shallow (omega (arith, r .1 .0)))
 
     -- ---- an index that rises with the position
@@ -100,7 +100,7 @@ module _ {E : Type 0} (S : Shape E) where
               let place : position S f ≡ position S e = omega arith in
               absurd (omega (arith, before .smaller, ap index (place-injective f e (before .sound) ok (before .level) place)))
 
-      earlier-before : (e : E) → Sound S e → (p : ℕ) → p < position S e → Before S index (at S (S .level e) p) e
+      earlier-before : (e : E) → Sound S e → (p : ℕ) → p < position S e → Before S index (elementAt S (S .level e) p) e
       earlier-before e ok p below =
           let l = S .level e in
           let shallow = W .shallow e ok in
@@ -109,7 +109,7 @@ module _ {E : Type 0} (S : Shape E) where
           record {
             sound = fine;
             level = at-level S W l p;
-            smaller = rises (at S l p) e fine ok (at-level S W l p) (rw (position-at S W l p shallow inside) below);
+            smaller = rises (elementAt S l p) e fine ok (at-level S W l p) (rw (position-at S W l p shallow inside) below);
           }
 
       -- the elements at the positions below that of e are exactly those before e
@@ -124,8 +124,8 @@ module _ {E : Type 0} (S : Shape E) where
 
           back : Before S index f e → List·Mem f (earlier (S .level e) (position S e))
           back before =
-              let here : f ≡ at S (S .level e) (position S f) =
-              sym (at-position S W f (before .sound)) ∙ ap (λ (l : ℕ). at S l (position S f)) (before .level) in
+              let here : f ≡ elementAt S (S .level e) (position S f) =
+              sym (at-position S W f (before .sound)) ∙ ap (λ (l : ℕ). elementAt S l (position S f)) (before .level) in
               ∣ Memᴰ·cast here (earlier-all (S .level e) (position S e) (position S f) (position-smaller e f ok before)) ∣₁
 
       listed : (e : E) → Sound S e → (fs : List E) × (List·Nodup fs × ((f : E) → List·Mem f fs ↔ Before S index f e))

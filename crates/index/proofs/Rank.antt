@@ -12,7 +12,7 @@ use Rattle.triangle.specs.Rows.{childRow}
 use Rattle.triangle.specs.Elements.{triangleTo}
 use Rattle.triangle.proofs.Tables.{each-child, each-face, childRow-small}
 use Rattle.triangle.proofs.Laws.{Known, known}
-use Rattle.prism.specs.Elements.{prismTo, triangleOf}
+use Rattle.prism.specs.Elements.{prismTo, plan}
 use Rattle.prism.proofs.Laws.{grids}
 use Rattle.line.proofs.Laws as line-laws
 use Rattle.triangle.specs.Elements as triangle
@@ -106,7 +106,7 @@ module _ (L : ℕ) where
         steps = λ e i ok room small.
             overlaid-laid (omega arith)
             (laid (bit-grown L (e .level) (e .z) (i / 4) room (omega arith) (grids L e ok .1))
-            (plan-laid (triangleOf e) (i % 4) _ _ (grids L e ok .0) room (omega arith)
+            (plan-laid (plan e) (i % 4) _ _ (grids L e ok .0) room (omega arith)
             (types-grown (prismTo L) (prism-laws.lawful L) (λ f. f .kind) e i ok room small)));
       }
 

@@ -4,7 +4,7 @@
 --                  column has as many entries)
 --   valueOr z o    the value, z on a refusal
 --   passResult    of a call with no value: the word alone
---   lineResult, triangleResult, prismResult, numberResult, truthResult, orderResult, pointResult
+--   lineResult, triangleResult, prismResult, numberResult, truthResult, compareResult, pointResult
 --                  what the call with the outcome o returns: on a refusal every field of the value is 0
 --   gridResult     the same for a grid that was read: its roots and the number of its leaves
 --   UniformResult, AdaptResult, SharesResult, WriteResult, ReadResult
@@ -39,7 +39,7 @@ use Rattle.interface.specs.declared.LineResult.{LineResult}
 use Rattle.interface.specs.declared.TriangleResult.{TriangleResult}
 use Rattle.interface.specs.declared.PrismResult.{PrismResult}
 use Rattle.interface.specs.declared.NumberResult.{NumberResult}
-use Rattle.interface.specs.declared.OrderResult.{OrderResult}
+use Rattle.interface.specs.declared.CompareResult.{CompareResult}
 use Rattle.interface.specs.declared.PointResult.{PointResult}
 use Rattle.interface.specs.declared.GridResult.{GridResult}
 
@@ -75,8 +75,8 @@ signOf less = negsuc 0
 signOf same = pos 0
 signOf greater = pos 1
 
-unfoldable pub orderResult : Outcome Order → OrderResult
-orderResult o = record { refusal = word o; value = signOf (valueOr same o) }
+unfoldable pub compareResult : Outcome Order → CompareResult
+compareResult o = record { refusal = word o; value = signOf (valueOr same o) }
 
 unfoldable pub passResult : Outcome (Unit {0}) → ℕ
 passResult o = word o

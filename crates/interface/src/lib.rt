@@ -39,7 +39,7 @@ pub struct NumberResult {
 }
 
 #[repr(C)]
-pub struct OrderResult {
+pub struct CompareResult {
     pub refusal: u64,
     pub value: i32,
 }

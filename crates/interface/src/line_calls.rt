@@ -1,7 +1,7 @@
 // The calls on lines.
+use crate::CompareResult;
 use crate::LineResult;
 use crate::NumberResult;
-use crate::OrderResult;
 use crate::results;
 use line::Line;
 ghost use mathlib.Core.Path.{_≡_};
@@ -9,7 +9,7 @@ ghost use lib.Dec.{eqb};
 ghost use lib.ListN.{length};
 ghost use Rattle.tree.specs.Calls;
 ghost use Rattle.line.specs.Elements.{line, elements};
-ghost use Rattle.interface.specs.Results.{lineResult, numberResult, truthResult, orderResult};
+ghost use Rattle.interface.specs.Results.{lineResult, numberResult, truthResult, compareResult};
 
 #[no_mangle]
 pub extern "C" fn gw_line_at(level: u8, position: u64) -> LineResult
@@ -68,10 +68,10 @@ pub extern "C" fn gw_line_neighbour(e: Line, face: u8) -> LineResult
 }
 
 #[no_mangle]
-pub extern "C" fn gw_line_compare(e: Line, f: Line) -> OrderResult
-    ensures { λ r. ⌜ r ≡ orderResult (Calls.order line e f) ⌝ }
+pub extern "C" fn gw_line_compare(e: Line, f: Line) -> CompareResult
+    ensures { λ r. ⌜ r ≡ compareResult (Calls.order line e f) ⌝ }
 {
-    results::of_order(e.compare(f))
+    results::of_comparison(e.compare(f))
 }
 
 #[no_mangle]

@@ -1,13 +1,13 @@
 // The calls on prisms.
+use crate::CompareResult;
 use crate::NumberResult;
-use crate::OrderResult;
 use crate::PrismResult;
 use crate::results;
 use prism::Prism;
 ghost use mathlib.Core.Path.{_≡_};
 ghost use Rattle.tree.specs.Calls;
 ghost use Rattle.prism.specs.Elements.{prism, equalColumns, elements};
-ghost use Rattle.interface.specs.Results.{prismResult, numberResult, truthResult, orderResult};
+ghost use Rattle.interface.specs.Results.{prismResult, numberResult, truthResult, compareResult};
 
 #[no_mangle]
 pub extern "C" fn gw_prism_at(level: u8, position: u64) -> PrismResult
@@ -66,10 +66,10 @@ pub extern "C" fn gw_prism_neighbour(e: Prism, face: u8) -> PrismResult
 }
 
 #[no_mangle]
-pub extern "C" fn gw_prism_compare(e: Prism, f: Prism) -> OrderResult
-    ensures { λ r. ⌜ r ≡ orderResult (Calls.order prism e f) ⌝ }
+pub extern "C" fn gw_prism_compare(e: Prism, f: Prism) -> CompareResult
+    ensures { λ r. ⌜ r ≡ compareResult (Calls.order prism e f) ⌝ }
 {
-    results::of_order(e.compare(f))
+    results::of_comparison(e.compare(f))
 }
 
 #[no_mangle]

@@ -1,8 +1,8 @@
 // From an answer to its result.
+use crate::CompareResult;
 use crate::GridResult;
 use crate::LineResult;
 use crate::NumberResult;
-use crate::OrderResult;
 use crate::PointResult;
 use crate::PrismResult;
 use crate::TriangleResult;
@@ -11,8 +11,8 @@ use corners::PointAnswer;
 use gridfile::GridAnswer;
 use line::Line;
 use line::LineAnswer;
+use paper::CompareAnswer;
 use paper::NumberAnswer;
-use paper::OrderAnswer;
 use paper::PassAnswer;
 use paper::TruthAnswer;
 use prism::Prism;
@@ -21,13 +21,13 @@ use triangle::Triangle;
 use triangle::TriangleAnswer;
 ghost use mathlib.Core.Path.{_≡_};
 ghost use Prim.Native.Nat.{_+_, _*_, _%_, _^_};
-ghost use Rattle.paper.specs.Readings.{valueOf, truthOf, orderOf, passOf};
+ghost use Rattle.paper.specs.Readings.{valueOf, truthOf, comparisonOf, passOf};
 ghost use Rattle.corners.specs.CornerPoints.{pointOf};
 ghost use Rattle.line.specs.Elements as lines;
 ghost use Rattle.triangle.specs.Elements as triangles;
 ghost use Rattle.prism.specs.Elements as prisms;
 ghost use Rattle.gridfile.specs.Readings.{gridOf};
-ghost use Rattle.interface.specs.Results.{lineResult, triangleResult, prismResult, numberResult, truthResult, orderResult, passResult, gridResult, pointResult};
+ghost use Rattle.interface.specs.Results.{lineResult, triangleResult, prismResult, numberResult, truthResult, compareResult, passResult, gridResult, pointResult};
 
 // The word of a refusal.
 fn word(number: u8, place: u64) -> u64
@@ -37,7 +37,7 @@ fn word(number: u8, place: u64) -> u64
 }
 
 pub(crate) fn of_line(a: LineAnswer) -> LineResult
-    ensures { λ r. ⌜ r ≡ lineResult (lines.elementOf a) ⌝ }
+    ensures { λ r. ⌜ r ≡ lineResult (lines.lineOf a) ⌝ }
 {
     match a {
         LineAnswer::Is(e) => LineResult {
@@ -52,7 +52,7 @@ pub(crate) fn of_line(a: LineAnswer) -> LineResult
 }
 
 pub(crate) fn of_triangle(a: TriangleAnswer) -> TriangleResult
-    ensures { λ r. ⌜ r ≡ triangleResult (triangles.elementOf a) ⌝ }
+    ensures { λ r. ⌜ r ≡ triangleResult (triangles.triangleOf a) ⌝ }
 {
     match a {
         TriangleAnswer::Is(e) => TriangleResult {
@@ -72,7 +72,7 @@ pub(crate) fn of_triangle(a: TriangleAnswer) -> TriangleResult
 }
 
 pub(crate) fn of_prism(a: PrismAnswer) -> PrismResult
-    ensures { λ r. ⌜ r ≡ prismResult (prisms.elementOf a) ⌝ }
+    ensures { λ r. ⌜ r ≡ prismResult (prisms.prismOf a) ⌝ }
 {
     match a {
         PrismAnswer::Is(e) => PrismResult {
@@ -130,23 +130,23 @@ pub(crate) fn of_truth(a: TruthAnswer) -> NumberResult
     }
 }
 
-pub(crate) fn of_order(a: OrderAnswer) -> OrderResult
-    ensures { λ r. ⌜ r ≡ orderResult (orderOf a) ⌝ }
+pub(crate) fn of_comparison(a: CompareAnswer) -> CompareResult
+    ensures { λ r. ⌜ r ≡ compareResult (comparisonOf a) ⌝ }
 {
     match a {
-        OrderAnswer::Less => OrderResult {
+        CompareAnswer::Less => CompareResult {
             refusal: 0,
             value: -1,
         },
-        OrderAnswer::Same => OrderResult {
+        CompareAnswer::Same => CompareResult {
             refusal: 0,
             value: 0,
         },
-        OrderAnswer::Greater => OrderResult {
+        CompareAnswer::Greater => CompareResult {
             refusal: 0,
             value: 1,
         },
-        OrderAnswer::Refused(number, place) => OrderResult {
+        CompareAnswer::Refused(number, place) => CompareResult {
             refusal: word(number, place),
             value: 0,
         },

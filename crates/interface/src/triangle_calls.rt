@@ -1,13 +1,13 @@
 // The calls on triangles.
+use crate::CompareResult;
 use crate::NumberResult;
-use crate::OrderResult;
 use crate::TriangleResult;
 use crate::results;
 use triangle::Triangle;
 ghost use mathlib.Core.Path.{_≡_};
 ghost use Rattle.tree.specs.Calls;
 ghost use Rattle.triangle.specs.Elements.{triangle, equalColumns, elements};
-ghost use Rattle.interface.specs.Results.{triangleResult, numberResult, truthResult, orderResult};
+ghost use Rattle.interface.specs.Results.{triangleResult, numberResult, truthResult, compareResult};
 
 #[no_mangle]
 pub extern "C" fn gw_triangle_at(level: u8, position: u64) -> TriangleResult
@@ -66,10 +66,10 @@ pub extern "C" fn gw_triangle_neighbour(e: Triangle, face: u8) -> TriangleResult
 }
 
 #[no_mangle]
-pub extern "C" fn gw_triangle_compare(e: Triangle, f: Triangle) -> OrderResult
-    ensures { λ r. ⌜ r ≡ orderResult (Calls.order triangle e f) ⌝ }
+pub extern "C" fn gw_triangle_compare(e: Triangle, f: Triangle) -> CompareResult
+    ensures { λ r. ⌜ r ≡ compareResult (Calls.order triangle e f) ⌝ }
 {
-    results::of_order(e.compare(f))
+    results::of_comparison(e.compare(f))
 }
 
 #[no_mangle]

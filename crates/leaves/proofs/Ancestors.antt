@@ -11,9 +11,9 @@ use Rattle.tree.specs.Laws.{Sound, Lawful}
 use Rattle.tree.proofs.RoundTrip.{round-trips}
 use Rattle.tree.proofs.Descent.{positions}
 use Rattle.tree.specs.Words as words
-use Rattle.leaves.specs.Leaves.{Leaf, place, Valid}
-use Rattle.leaves.specs.Laws.{at, Holds, Once}
-use Rattle.leaves.specs.Cells.{up, InLeaf, OneLeaf, CellsOnce, Tied}
+use Rattle.leaves.specs.Leaves.{Leaf, spotAt, Valid}
+use Rattle.leaves.specs.Laws.{nth, Holds, Once}
+use Rattle.leaves.specs.Cells.{up, InLeaf, OneLeaf, CellsOnce, CellLaws}
 use Rattle.leaves.proofs.Cells.{once-each}
 use Rattle.leaves.proofs.Entries.{level-at, position-at}
 
@@ -71,7 +71,7 @@ module _ {E : Type 0} (S : Shape E) (W : Lawful S) where
           lies = record {
             times = k;
             parents = enough;
-            reached = sym (round-trips S W .at-position (up S k e) (a .sound)) ∙ ap₂ (words.at S) level (a .position ∙ h .ancestor);
+            reached = sym (round-trips S W .at-position (up S k e) (a .sound)) ∙ ap₂ (words.elementAt S) level (a .position ∙ h .ancestor);
           };
         }
 
@@ -84,22 +84,22 @@ module _ {E : Type 0} (S : Shape E) (W : Lawful S) where
       few : words.position S e < S .children ^ S .highest
       few = subst (λ (l : ℕ). words.position S e < S .children ^ l) smallest (round-trips S W .position-lt e sound)
 
-      level : (j : ℕ) → j < length vs → at vs j .level ≤ S .highest
-      level j inside = level-at (S .children) (S .highest) K (place 0 0) vs j valid inside
+      level : (j : ℕ) → j < length vs → nth vs j .level ≤ S .highest
+      level j inside = level-at (S .children) (S .highest) K (spotAt 0 0) vs j valid inside
 
-      position : (j : ℕ) → j < length vs → at vs j .position < S .children ^ at vs j .level
-      position j inside = position-at (S .children) (S .highest) K (place 0 0) vs j valid inside
+      position : (j : ℕ) → j < length vs → nth vs j .position < S .children ^ nth vs j .level
+      position j inside = position-at (S .children) (S .highest) K (spotAt 0 0) vs j valid inside
 
       by : Once (S .children) (S .highest) vs r (words.position S e) → OneLeaf S vs r e
       by o =
           record {
             which = o .which;
             inside = o .inside;
-            holds = of-holds (at vs (o .which)) r e sound smallest (level (o .which) (o .inside)) (position (o .which) (o .inside)) (o .holds);
-            only = λ j inside held. o .only j inside (holds-of (at vs j) r e sound smallest (level j inside) (position j inside) held);
+            holds = of-holds (nth vs (o .which)) r e sound smallest (level (o .which) (o .inside)) (position (o .which) (o .inside)) (o .holds);
+            only = λ j inside held. o .only j inside (holds-of (nth vs j) r e sound smallest (level j inside) (position j inside) held);
           }
 
-  pub tied : Tied S
+  pub tied : CellLaws S
   tied =
       record {
         once = cells-once;

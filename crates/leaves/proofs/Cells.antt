@@ -7,13 +7,13 @@ use native.Mathlib.Nat.{div-mul-le-self, lt-div-mul-add, div-eq-of-lt-le, mul-le
 use native.Mathlib.Decide.{decLt, ℕ-discrete}
 use native.Mathlib.Omega.{arith}
 use lib.ListN.{length}
-use Rattle.leaves.specs.Leaves.{Leaf, Place, place, span, begin, past, startOf, endOf, Covers, Valid}
-use Rattle.leaves.specs.Laws.{at, Holds, Once, OnceEach}
+use Rattle.leaves.specs.Leaves.{Leaf, Spot, spotAt, span, begin, past, startOf, endOf, Covers, Valid}
+use Rattle.leaves.specs.Laws.{nth, Holds, Once, OnceEach}
 use Rattle.leaves.proofs.Span.{more-mul, quotient, power-pos, past-begin, past-le, end-last, end-within}
 
 module _ (n L : ℕ) where
   -- ---- the number of a place, counted through all roots
-  abbrev number : Place → ℕ
+  abbrev number : Spot → ℕ
   number c = c .root * n ^ L + c .cell
 
   number-end : (v : Leaf) → number (endOf n L v) ≡ number (startOf n L v) + span n L (v .level)
@@ -48,32 +48,32 @@ module _ (n L : ℕ) where
       record { root = same; ancestor = div-eq-of-lt-le (span n L (v .level)) (omega arith) (omega (arith, number-end v)) }
 
   -- ---- a list with one leaf more
-  once-head : (v : Leaf) (vs : List Leaf) (r q : ℕ) → Holds n L v r q → ((j : ℕ) → j < length vs → Holds n L (at vs j) r q → ⊥)
+  once-head : (v : Leaf) (vs : List Leaf) (r q : ℕ) → Holds n L v r q → ((j : ℕ) → j < length vs → Holds n L (nth vs j) r q → ⊥)
       → Once n L (v ∷ vs) r q
   once-head v vs r q h others = record { which = 0; inside = omega arith; holds = h; only = only }
     where
-      only : (j : ℕ) → j < suc (length vs) → Holds n L (at (v ∷ vs) j) r q → j ≡ 0
+      only : (j : ℕ) → j < suc (length vs) → Holds n L (nth (v ∷ vs) j) r q → j ≡ 0
       only zero inside held = refl
       only (suc j) inside held = absurd (others j (omega arith) held)
 
   once-tail : (v : Leaf) (vs : List Leaf) (r q : ℕ) → (Holds n L v r q → ⊥) → Once n L vs r q → Once n L (v ∷ vs) r q
   once-tail v vs r q other o = record { which = suc (o .which); inside = omega (arith, o .inside); holds = o .holds; only = only }
     where
-      only : (j : ℕ) → j < suc (length vs) → Holds n L (at (v ∷ vs) j) r q → j ≡ suc (o .which)
+      only : (j : ℕ) → j < suc (length vs) → Holds n L (nth (v ∷ vs) j) r q → j ≡ suc (o .which)
       only zero inside held = absurd (other held)
       only (suc j) inside held = ap suc (o .only j (omega arith) held)
 
   module _ (positive : 0 < n) (K r q : ℕ) (small : q < n ^ L) where
     -- no leaf of a list from c on holds a cell before c
-    none-before : (c : Place) (vs : List Leaf) → Covers n L c vs K → r * n ^ L + q < number c
-        → (j : ℕ) → j < length vs → Holds n L (at vs j) r q → ⊥
+    none-before : (c : Spot) (vs : List Leaf) → Covers n L c vs K → r * n ^ L + q < number c
+        → (j : ℕ) → j < length vs → Holds n L (nth vs j) r q → ⊥
     unfolding Covers
     none-before c [] f before j inside held = absurd (omega arith)
     none-before c (v ∷ vs) f before zero inside held = omega (arith, ap number (f .2), holds-from v r q held)
     none-before c (v ∷ vs) f before (suc j) inside held =
         none-before (endOf n L v) vs (f .4) (omega (arith, ap number (f .2), number-end v)) j (omega arith) held
 
-    once-from : (c : Place) (vs : List Leaf) → Covers n L c vs K → r < K → number c ≤ r * n ^ L + q → Once n L vs r q
+    once-from : (c : Spot) (vs : List Leaf) → Covers n L c vs K → r < K → number c ≤ r * n ^ L + q → Once n L vs r q
     unfolding Covers
     once-from c [] f root after =
         let next : r + 1 ≤ K = omega arith in
@@ -87,4 +87,4 @@ module _ (n L : ℕ) where
         by (no beyond) later = once-tail v vs r q (λ h. omega (arith, holds-to positive v r q h)) (later (omega arith))
 
   pub once-each : 0 < n → (K : ℕ) (vs : List Leaf) → Valid n L K vs → OnceEach n L K vs
-  once-each positive K vs f r q root small = once-from positive K r q small (place 0 0) vs f root (omega arith)
+  once-each positive K vs f r q root small = once-from positive K r q small (spotAt 0 0) vs f root (omega arith)

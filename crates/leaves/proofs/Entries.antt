@@ -5,28 +5,28 @@ use Prim.Native.Nat.{ℕ, zero, suc, _^_, _≤_, _<_}
 use native.Mathlib.Omega.{arith}
 use lib.ListN.{length, length-map}
 use Rattle.paper.specs.Outcome.{rows}
-use Rattle.leaves.specs.Leaves.{Leaf, leafAt, leaves, rootsOf, levelsOf, positionsOf, Place, startOf, endOf, Covers, Valid}
-use Rattle.leaves.specs.Laws.{at}
+use Rattle.leaves.specs.Leaves.{Leaf, leafAt, leaves, rootsOf, levelsOf, positionsOf, Spot, startOf, endOf, Covers, Valid}
+use Rattle.leaves.specs.Laws.{nth}
 
 module _ (n L K : ℕ) where
-  pub level-at : (c : Place) (vs : List Leaf) (j : ℕ) → Covers n L c vs K → j < length vs → at vs j .level ≤ L
+  pub level-at : (c : Spot) (vs : List Leaf) (j : ℕ) → Covers n L c vs K → j < length vs → nth vs j .level ≤ L
   unfolding Covers
   level-at c [] j f inside = absurd (omega arith)
   level-at c (v ∷ vs) zero f inside = f .0
   level-at c (v ∷ vs) (suc j) f inside = level-at (endOf n L v) vs j (f .4) (omega arith)
 
-  pub position-at : (c : Place) (vs : List Leaf) (j : ℕ) → Covers n L c vs K → j < length vs → at vs j .position < n ^ at vs j .level
+  pub position-at : (c : Spot) (vs : List Leaf) (j : ℕ) → Covers n L c vs K → j < length vs → nth vs j .position < n ^ nth vs j .level
   unfolding Covers
   position-at c [] j f inside = absurd (omega arith)
   position-at c (v ∷ vs) zero f inside = f .1
   position-at c (v ∷ vs) (suc j) f inside = position-at (endOf n L v) vs j (f .4) (omega arith)
 
-  starts-at : (c : Place) (vs : List Leaf) → Covers n L c vs K → 0 < length vs → startOf n L (at vs 0) ≡ c
+  starts-at : (c : Spot) (vs : List Leaf) → Covers n L c vs K → 0 < length vs → startOf n L (nth vs 0) ≡ c
   unfolding Covers
   starts-at c [] f some = absurd (omega arith)
   starts-at c (v ∷ vs) f some = f .2
 
-  pub follows : (c : Place) (vs : List Leaf) (j : ℕ) → Covers n L c vs K → suc j < length vs → startOf n L (at vs (suc j)) ≡ endOf n L (at vs j)
+  pub follows : (c : Spot) (vs : List Leaf) (j : ℕ) → Covers n L c vs K → suc j < length vs → startOf n L (nth vs (suc j)) ≡ endOf n L (nth vs j)
   unfolding Covers
   follows c [] j f inside = absurd (omega arith)
   follows c (v ∷ vs) zero f inside = starts-at (endOf n L v) vs (f .4) (omega arith)
@@ -35,7 +35,7 @@ module _ (n L K : ℕ) where
 -- the leaves of one root at least are some
 pub some-leaf : (n L K : ℕ) (vs : List Leaf) → 0 < K → Valid n L K vs → 0 < length vs
 unfolding Covers
-some-leaf n L K [] some valid = absurd (let none : 0 ≡ K = ap (λ (p : Place). p .root) valid in omega arith)
+some-leaf n L K [] some valid = absurd (let none : 0 ≡ K = ap (λ (p : Spot). p .root) valid in omega arith)
 some-leaf n L K (v ∷ vs) some valid = omega arith
 
 -- ---- the leaves of a list's own columns are the list

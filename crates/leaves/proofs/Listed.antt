@@ -11,9 +11,9 @@ use borrow.Author.Tests.{ltb-false, eqb-true, eqb-false, not-false, le-ltb, eq-e
 use Rattle.paper.specs.Outcome.{Outcome, accepted, refused, passed, rows}
 use Rattle.paper.proofs.Tests.{refused-by, passed-by, or-none}
 use Rattle.paper.proofs.Scan.{accepted-of, accepted-by, carry, rows-length}
-use Rattle.leaves.specs.Leaves.{leaf, leafAt, leaves, place}
+use Rattle.leaves.specs.Leaves.{leaf, leafAt, leaves, spotAt}
 use Rattle.leaves.specs.Calls.{limit, outOfRange, equalColumns, walked, listed}
-use Rattle.leaves.specs.Laws.{at, ValidList}
+use Rattle.leaves.specs.Laws.{nth, ValidList}
 use Rattle.leaves.proofs.Check.{exactly, walked-passed, walked-accepted, walked-refused}
 
 -- ---- entry i of the list that stands in three columns
@@ -23,7 +23,7 @@ getD-rows entry d i (suc k) zero inside = ap entry (sym (add-zero i))
 getD-rows entry d i (suc k) (suc j) inside = getD-rows entry d (suc i) k j (omega arith) ∙ ap entry (suc-add i j ∙ sym (add-suc i j))
 
 module _ (rs ls ps : List ℕ) where
-  pub at-leaves : (j : ℕ) → j < length rs → at (leaves rs ls ps) j ≡ leafAt rs ls ps j
+  pub at-leaves : (j : ℕ) → j < length rs → nth (leaves rs ls ps) j ≡ leafAt rs ls ps j
   at-leaves j inside = getD-rows (leafAt rs ls ps) (leaf 0 0 0) 0 (length rs) j inside ∙ ap (leafAt rs ls ps) (zero-add j)
 
   pub leaves-length : length (leaves rs ls ps) ≡ length rs
@@ -51,7 +51,7 @@ module _ (n L K : ℕ) (inRange fitting : Bool) (rs ls ps : List ℕ) where
         passed-by wrongNumber 17 0 _ number ∙ passed-by (not rightColumns) 11 0 _ (ap not columns) ∙ refused-by wrongLength 11 0 _ wrong
 
     pub listed-on : wrongNumber ≡ false → rightColumns ≡ true → wrongLength ≡ false
-        → listed n L K inRange fitting rs ls ps rest ≡ walked n L K 0 (place 0 0) (leaves rs ls ps) rest
+        → listed n L K inRange fitting rs ls ps rest ≡ walked n L K 0 (spotAt 0 0) (leaves rs ls ps) rest
     listed-on number columns size =
         passed-by wrongNumber 17 0 _ number ∙ passed-by (not rightColumns) 11 0 _ (ap not columns) ∙ passed-by wrongLength 11 0 _ size
 
@@ -85,7 +85,7 @@ module _ (n L K : ℕ) (inRange fitting : Bool) (rs ls ps : List ℕ) where
         let a = accepted-by wrongNumber 17 0 _ h in
         let b = accepted-by (not rightColumns) 11 0 _ (a .1) in
         let d = accepted-by wrongLength 11 0 _ (b .1) in
-        listed-on rest (a .0) (not-false rightColumns (b .0)) (d .0) ∙ walked-passed n L K rest 0 (place 0 0) (leaves rs ls ps) (d .1)
+        listed-on rest (a .0) (not-false rightColumns (b .0)) (d .0) ∙ walked-passed n L K rest 0 (spotAt 0 0) (leaves rs ls ps) (d .1)
 
     pub listed-accepted : (b : B) → listed n L K inRange fitting rs ls ps rest ≡ accepted b
         → (listed n L K inRange fitting rs ls ps passed ≡ passed) × (rest ≡ accepted b)
@@ -93,7 +93,7 @@ module _ (n L K : ℕ) (inRange fitting : Bool) (rs ls ps : List ℕ) where
         let a = accepted-of wrongNumber 17 0 _ b h in
         let d = accepted-of (not rightColumns) 11 0 _ b (a .1) in
         let e = accepted-of wrongLength 11 0 _ b (d .1) in
-        let leaf-by-leaf = walked-accepted n L K rest 0 (place 0 0) (leaves rs ls ps) b (e .1) in
+        let leaf-by-leaf = walked-accepted n L K rest 0 (spotAt 0 0) (leaves rs ls ps) b (e .1) in
         (listed-on passed (a .0) (not-false rightColumns (d .0)) (e .0) ∙ leaf-by-leaf .0, leaf-by-leaf .1)
 
     pub listed-fits : (b : B) → listed n L K inRange fitting rs ls ps rest ≡ accepted b → (inRange ≡ true) × (fitting ≡ true)
@@ -105,7 +105,7 @@ module _ (n L K : ℕ) (inRange fitting : Bool) (rs ls ps : List ℕ) where
     pub listed-refused : (m p : ℕ) → listed n L K inRange fitting rs ls ps passed ≡ refused m p → listed n L K inRange fitting rs ls ps rest ≡ refused m p
     listed-refused m p =
         carry wrongNumber 17 0 m p _ _
-        (carry (not rightColumns) 11 0 m p _ _ (carry wrongLength 11 0 m p _ _ (walked-refused n L K rest 0 m p (place 0 0) (leaves rs ls ps))))
+        (carry (not rightColumns) 11 0 m p _ _ (carry wrongLength 11 0 m p _ _ (walked-refused n L K rest 0 m p (spotAt 0 0) (leaves rs ls ps))))
 
 -- ---- the list check
 module _ (n L K : ℕ) (rs ls ps : List ℕ) where

@@ -5,7 +5,7 @@ use native.Mathlib.Nat.{add-mul, one-mul, one-le-pow, mul-le-mul-right, div-eq-o
 use native.Mathlib.Omega.{arith}
 use lib.Pow.{pow-add}
 use borrow.Author.Tests.{eq-eqb, ne-eqb}
-use Rattle.leaves.specs.Leaves.{Leaf, place, span, begin, past, endOf}
+use Rattle.leaves.specs.Leaves.{Leaf, spotAt, span, begin, past, endOf}
 
 -- one more
 pub more-mul : (a b : ℕ) → (a + 1) * b ≡ a * b + b
@@ -37,8 +37,8 @@ module _ (n L : ℕ) where
         let next : v .position + 1 ≤ n ^ v .level = omega arith in
         omega (arith, mul-le-mul-right (span n L (v .level)) next, fill (v .level) shallow)
 
-    pub end-last : past n L v ≡ n ^ L → endOf n L v ≡ place (v .root + 1) 0
+    pub end-last : past n L v ≡ n ^ L → endOf n L v ≡ spotAt (v .root + 1) 0
     end-last last = simp (eq-eqb (past n L v) (n ^ L) last)
 
-    pub end-within : (past n L v ≡ n ^ L → ⊥) → endOf n L v ≡ place (v .root) (past n L v)
+    pub end-within : (past n L v ≡ n ^ L → ⊥) → endOf n L v ≡ spotAt (v .root) (past n L v)
     end-within within = simp (ne-eqb (past n L v) (n ^ L) within)

@@ -6,10 +6,10 @@ use native.Mathlib.Numerals.{add-one}
 use borrow.Author.Tests.{eq-eqb, ne-eqb}
 use Rattle.paper.specs.Outcome.{Outcome, refused, rows}
 use Rattle.paper.proofs.Scan.{fault-taken, fault-none, rows-next, rows-done}
-use Rattle.leaves.specs.Leaves.{Leaf, Place, endOf}
+use Rattle.leaves.specs.Leaves.{Leaf, Spot, endOf}
 use Rattle.leaves.specs.Calls.{leafFault, walked}
 
-module _ (n L K : ℕ) {A : Type 0} (rest : Outcome A) (entry : ℕ → Leaf) (m i : ℕ) (c : Place) where
+module _ (n L K : ℕ) {A : Type 0} (rest : Outcome A) (entry : ℕ → Leaf) (m i : ℕ) (c : Spot) where
   pub walk-next : i < m → leafFault n L K c (entry i) ≡ 0
       → walked n L K i c (rows entry i (m - i)) rest ≡ walked n L K (i + 1) (endOf n L (entry i)) (rows entry (i + 1) (m - (i + 1))) rest
   unfolding walked

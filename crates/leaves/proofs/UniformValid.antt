@@ -6,7 +6,7 @@ use native.Mathlib.Nat.{zero-mul, mod-lt, div-add-mod', div-lt-iff-lt-mul, mul-l
 use native.Mathlib.Decide.{decLt}
 use native.Mathlib.Omega.{arith}
 use Rattle.paper.specs.Outcome.{rows}
-use Rattle.leaves.specs.Leaves.{Leaf, leaf, Place, place, span, past, endOf, Covers, Valid, uniform}
+use Rattle.leaves.specs.Leaves.{Leaf, leaf, Spot, spotAt, span, past, endOf, Covers, Valid, uniform}
 use Rattle.leaves.proofs.Span.{more-mul, quotient, rest, power-pos, fill, end-last, end-within}
 
 module _ (n L l : ℕ) (positive : 0 < n) (shallow : l ≤ L) where
@@ -14,16 +14,16 @@ module _ (n L l : ℕ) (positive : 0 < n) (shallow : l ≤ L) where
   entry i = leaf (i / n ^ l) l (i % n ^ l)
 
   -- where leaf i starts, also for the i after the last
-  abbrev spot : ℕ → Place
-  spot i = place (i / n ^ l) (i % n ^ l * span n L l)
+  abbrev spot : ℕ → Spot
+  spot i = spotAt (i / n ^ l) (i % n ^ l * span n L l)
 
-  spot-of : (i q r : ℕ) → i ≡ q * n ^ l + r → r < n ^ l → spot i ≡ place q (r * span n L l)
+  spot-of : (i q r : ℕ) → i ≡ q * n ^ l + r → r < n ^ l → spot i ≡ spotAt q (r * span n L l)
   spot-of i q r e small =
-      ap₂ (λ (a b : ℕ). place a (b * span n L l)) (quotient (n ^ l) q r i e small) (rest (n ^ l) q r i e small)
+      ap₂ (λ (a b : ℕ). spotAt a (b * span n L l)) (quotient (n ^ l) q r i e small) (rest (n ^ l) q r i e small)
 
-  spot-first : (i q : ℕ) → i ≡ q * n ^ l → spot i ≡ place q 0
+  spot-first : (i q : ℕ) → i ≡ q * n ^ l → spot i ≡ spotAt q 0
   spot-first i q e =
-      spot-of i q 0 (omega arith) (power-pos n l positive) ∙ ap (place q) (zero-mul (span n L l))
+      spot-of i q 0 (omega arith) (power-pos n l positive) ∙ ap (spotAt q) (zero-mul (span n L l))
 
   -- leaf i ends where leaf i + 1 starts
   next-last : (i : ℕ) → i % n ^ l + 1 ≡ n ^ l → endOf n L (entry i) ≡ spot (suc i)

@@ -25,7 +25,7 @@ use lib.Dec.{leb, ltb, eqb}
 use lib.ListN.{length}
 use Rattle.paper.specs.Outcome.{Outcome, accepted, refuse-when, refuse-when-at, fault-when}
 use Rattle.paper.specs.Memory.{lent}
-use Rattle.leaves.specs.Leaves.{Leaf, leaves, rootsOf, levelsOf, positionsOf, Place, place, begin, endOf}
+use Rattle.leaves.specs.Leaves.{Leaf, leaves, rootsOf, levelsOf, positionsOf, Spot, spotAt, begin, endOf}
 
 abbrev pub limit : ℕ
 limit = 1048576
@@ -43,16 +43,16 @@ pub record Columns {A : Type 0} (o : Outcome A) (vs : List Leaf) (roots levels p
 
 module _ (n L : ℕ) where
   -- the leaf starts where the list has come to, in one of the K roots
-  abbrev pub starts : ℕ → Place → Leaf → Bool
+  abbrev pub starts : ℕ → Spot → Leaf → Bool
   starts K c v = ltb (v .root) K && (eqb (v .root) (c .root) && eqb (begin n L v) (c .cell))
 
-  abbrev pub leafFault : ℕ → Place → Leaf → ℕ
+  abbrev pub leafFault : ℕ → Spot → Leaf → ℕ
   leafFault K c v =
       fault-when (ltb L (v .level)) 1
       (fault-when (leb (n ^ v .level) (v .position)) 5
       (fault-when (not (starts K c v)) 12 0))
 
-  unfoldable pub walked : {A : Type 0} → ℕ → ℕ → Place → List Leaf → Outcome A → Outcome A
+  unfoldable pub walked : {A : Type 0} → ℕ → ℕ → Spot → List Leaf → Outcome A → Outcome A
   walked K i c [] rest = refuse-when-at (not (eqb (c .root) K && eqb (c .cell) 0)) 12 i rest
   walked K i c (v ∷ vs) rest =
       refuse-when-at (not (eqb (leafFault K c v) 0)) (leafFault K c v) i (walked K (suc i) (endOf n L v) vs rest)
@@ -62,7 +62,7 @@ module _ (n L : ℕ) where
       refuse-when (outOfRange K || not inRange) 17
       (refuse-when (not (equalColumns roots levels positions && fitting)) 11
       (refuse-when (eqb (length roots) 0 || ltb limit (length roots)) 11
-      (walked K 0 (place 0 0) (leaves roots levels positions) rest)))
+      (walked K 0 (spotAt 0 0) (leaves roots levels positions) rest)))
 
   -- room is the length of the lent columns, equal whether they are equally long
   abbrev pub uniform : ℕ → ℕ → Bool → ℕ → Outcome ℕ

@@ -1,6 +1,6 @@
 -- What is promised of leaf lists, as statements, over the number of children and the highest level. Definitions only.
 --
---   at vs j           leaf j of a list
+--   nth vs j          leaf j of a list
 --   ValidList         "A list is three columns of equal length: root, level, position; 1 to 1,048,576 leaves. It is valid for K roots when .."
 --   Holds v r q       smallest cell q of root r lies in the leaf v, by its position: the leaf is of that root, and the cell's position divided by
 --                     the cells that the leaf holds is the leaf's. `Cells.antt` says it by taking parents, and that the two agree
@@ -21,8 +21,8 @@ use Rattle.leaves.specs.Leaves.{Leaf, leaf, leaves, Valid, uniform, span
 use Rattle.leaves.specs.Calls.{limit, listed}
 
 -- leaf j of a list
-abbrev pub at : List Leaf → ℕ → Leaf
-at vs j = getD vs j (leaf 0 0 0)
+abbrev pub nth : List Leaf → ℕ → Leaf
+nth vs j = getD vs j (leaf 0 0 0)
 
 module _ (n L : ℕ) where
   pub record Holds (v : Leaf) (r q : ℕ) : Type 0 where
@@ -33,8 +33,8 @@ module _ (n L : ℕ) where
   pub record Once (vs : List Leaf) (r q : ℕ) : Type 0 where
     pub which : ℕ
     pub inside : which < length vs
-    pub holds : Holds (at vs which) r q
-    pub only : (j : ℕ) → j < length vs → Holds (at vs j) r q → j ≡ which
+    pub holds : Holds (nth vs which) r q
+    pub only : (j : ℕ) → j < length vs → Holds (nth vs j) r q → j ≡ which
 
   abbrev pub OnceEach : ℕ → List Leaf → Type 0
   OnceEach K vs = (r q : ℕ) → r < K → q < n ^ L → Once vs r q

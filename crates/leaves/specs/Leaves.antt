@@ -6,7 +6,7 @@
 --   rootsOf, levelsOf, positionsOf   the columns of a list of leaves
 --   span n L l       how many smallest cells "a leaf of level l holds": n^(L-l)
 --   begin, past      the first smallest cell of its root that a leaf holds, and the first after them
---   Place            where a leaf may start: a root, and a smallest cell of it
+--   Spot            where a leaf may start: a root, and a smallest cell of it
 --   startOf, endOf   where a leaf starts, and where it ends: "if that is the end of a root, at the start of the next root"
 --   Covers c vs K    the leaves start at c, "each later leaf starts where the one before it ended", "and the last ends root K-1"
 --   Valid K vs       "valid for K roots when the first leaf starts root 0 .."
@@ -45,12 +45,12 @@ levelsOf vs = map (λ (v : Leaf). v .level) vs
 abbrev pub positionsOf : List Leaf → List ℕ
 positionsOf vs = map (λ (v : Leaf). v .position) vs
 
-pub record Place : Type 0 where
+pub record Spot : Type 0 where
   pub root : ℕ
   pub cell : ℕ
 
-abbrev pub place : ℕ → ℕ → Place
-place r q = record { root = r; cell = q }
+abbrev pub spotAt : ℕ → ℕ → Spot
+spotAt r q = record { root = r; cell = q }
 
 module _ (n L : ℕ) where
   abbrev pub span : ℕ → ℕ
@@ -62,19 +62,19 @@ module _ (n L : ℕ) where
   abbrev pub past : Leaf → ℕ
   past v = (v .position + 1) * span (v .level)
 
-  abbrev pub startOf : Leaf → Place
-  startOf v = place (v .root) (begin v)
+  abbrev pub startOf : Leaf → Spot
+  startOf v = spotAt (v .root) (begin v)
 
-  abbrev pub endOf : Leaf → Place
-  endOf v = cond (eqb (past v) (n ^ L)) (place (v .root + 1) 0) (place (v .root) (past v))
+  abbrev pub endOf : Leaf → Spot
+  endOf v = cond (eqb (past v) (n ^ L)) (spotAt (v .root + 1) 0) (spotAt (v .root) (past v))
 
-  unfoldable pub Covers : Place → List Leaf → ℕ → Type 0
-  Covers c [] K = c ≡ place K 0
+  unfoldable pub Covers : Spot → List Leaf → ℕ → Type 0
+  Covers c [] K = c ≡ spotAt K 0
   Covers c (v ∷ vs) K =
       (v .level ≤ L) × (v .position < n ^ v .level) × (startOf v ≡ c) × (v .root < K) × Covers (endOf v) vs K
 
   abbrev pub Valid : ℕ → List Leaf → Type 0
-  Valid K vs = Covers (place 0 0) vs K
+  Valid K vs = Covers (spotAt 0 0) vs K
 
   abbrev pub uniform : ℕ → ℕ → List Leaf
   uniform K l = rows (λ i. leaf (i / n ^ l) l (i % n ^ l)) 0 (K * n ^ l)

@@ -1,10 +1,10 @@
 -- What the places of the code stand for. Definitions only.
 --
---   placeOf    the place that a Cursor stands for
+--   spotOf    the spot that a Cursor stands for
 --
 -- Assumes nothing.
 use Rattle.leaves.specs.declared.Cursor.{Cursor}
-use Rattle.leaves.specs.Leaves.{Place, place}
+use Rattle.leaves.specs.Leaves.{Spot, spotAt}
 
-abbrev pub placeOf : Cursor → Place
-placeOf c = place (c .root) (c .cell)
+abbrev pub spotOf : Cursor → Spot
+spotOf c = spotAt (c .root) (c .cell)

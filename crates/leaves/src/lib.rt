@@ -10,9 +10,9 @@ ghost use lib.Dec.{eqb};
 ghost use lib.ListN.{length};
 ghost use Rattle.paper.specs.Outcome.{passed, rows};
 ghost use Rattle.paper.specs.Readings.{checksOf, passOf};
-ghost use Rattle.leaves.specs.Leaves.{leafAt, leaves, place};
+ghost use Rattle.leaves.specs.Leaves.{leafAt, leaves, spotAt};
 ghost use Rattle.leaves.specs.Calls.{outOfRange, leafFault, walked, listed};
-ghost use Rattle.leaves.specs.Readings.{placeOf};
+ghost use Rattle.leaves.specs.Readings.{spotOf};
 ghost use Rattle.leaves.specs.Start.{Started};
 ghost use Rattle.leaves.specs.Stretch as st;
 ghost use Rattle.leaves.specs.Stretch.{laid, Ran};
@@ -131,7 +131,7 @@ pub fn lay(
 // The leaves in turn, each where the one before it ended, to the first that doesn't start there or to the end of the last root.
 fn walk(bits: u8, highest: u8, k: u16, roots: &[u16], levels: &[u8], positions: &[u64]) -> Fault
     requires { ⌜ (0 < bits) × ((bits * highest ≤ 63) × ((0 < k) × ((length (now roots) ≡ length (now levels)) × (length (now roots) ≡ length (now positions))))) ⌝ }
-    ensures { λ r. ⌜ checksOf r ≡ walked (2 ^ bits) highest k 0 (place 0 0) (leaves (now (roots .entry)) (now (levels .entry)) (now (positions .entry))) passed ⌝ }
+    ensures { λ r. ⌜ checksOf r ≡ walked (2 ^ bits) highest k 0 (spotAt 0 0) (leaves (now (roots .entry)) (now (levels .entry)) (now (positions .entry))) passed ⌝ }
 {
     let whole = 1u64 << (bits * highest);
     let mut root = 0;
@@ -174,8 +174,8 @@ fn stopped(
     levels: &[u8],
     positions: &[u64],
 ) -> Fault
-    requires { ⌜ (0 < bits) × ((bits * highest ≤ 63) × ((length (now roots) ≡ length (now levels)) × ((length (now roots) ≡ length (now positions)) × (i < length (now roots) → leafFault (2 ^ bits) highest k (placeOf at) (leafAt (now roots) (now levels) (now positions) i) ≡ 0 → ⊥)))) ⌝ }
-    ensures { λ r. ⌜ checksOf r ≡ walked (2 ^ bits) highest k i (placeOf at) (rows (leafAt (now (roots .entry)) (now (levels .entry)) (now (positions .entry))) i (length (now (roots .entry)) - i)) passed ⌝ }
+    requires { ⌜ (0 < bits) × ((bits * highest ≤ 63) × ((length (now roots) ≡ length (now levels)) × ((length (now roots) ≡ length (now positions)) × (i < length (now roots) → leafFault (2 ^ bits) highest k (spotOf at) (leafAt (now roots) (now levels) (now positions) i) ≡ 0 → ⊥)))) ⌝ }
+    ensures { λ r. ⌜ checksOf r ≡ walked (2 ^ bits) highest k i (spotOf at) (rows (leafAt (now (roots .entry)) (now (levels .entry)) (now (positions .entry))) i (length (now (roots .entry)) - i)) passed ⌝ }
 {
     if i < roots.len() {
         return Fault {

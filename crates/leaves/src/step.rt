@@ -6,7 +6,7 @@ ghost use Prim.Native.Nat.{_*_, _^_, _≤_, _<_};
 ghost use lib.Dec.{ltb, eqb};
 ghost use Rattle.leaves.specs.Leaves.{leaf};
 ghost use Rattle.leaves.specs.Calls.{leafFault};
-ghost use Rattle.leaves.specs.Readings.{placeOf};
+ghost use Rattle.leaves.specs.Readings.{spotOf};
 
 // The first of 1, 5, 12 that a leaf has where the list has come to, or 0.
 pub(crate) fn leaf_fault(
@@ -19,7 +19,7 @@ pub(crate) fn leaf_fault(
     position: u64,
 ) -> u8
     requires { ⌜ (0 < bits) × (bits * highest ≤ 63) ⌝ }
-    ensures { λ r. ⌜ r ≡ leafFault (2 ^ bits) highest k (placeOf at) (leaf root level position) ⌝ }
+    ensures { λ r. ⌜ r ≡ leafFault (2 ^ bits) highest k (spotOf at) (leaf root level position) ⌝ }
 {
     if highest < level {
         return 1;

@@ -5,7 +5,7 @@ use native.Mathlib.Nat.{add-zero, add-suc, zero-mul}
 use native.Mathlib.Omega.{arith}
 use lib.Pow.{pow-mono}
 use Rattle.tree.specs.Anchors.{side}
-use Rattle.tree.specs.Words.{at, position, descend, first, last}
+use Rattle.tree.specs.Words.{elementAt, position, descend, first, last}
 use Rattle.tree.specs.Laws.{Sound}
 use Rattle.tree.proofs.Anchor.{grid-units, units-lt, units-child, side-suc}
 use Rattle.tree.proofs.Digits.{div-lt}
@@ -16,8 +16,8 @@ use Rattle.line.specs.Elements.{lineTo}
 use Rattle.line.proofs.Laws.{line-path, lawful, sound-level, sound-grid}
 
 module _ (L : ℕ) where
-  pub at-closed : (l p : ℕ) → l ≤ L → p < 2 ^ l → at (lineTo L) l p ≡ record { x = p * side L l; level = l }
-  unfolding at lineTo
+  pub at-closed : (l p : ℕ) → l ≤ L → p < 2 ^ l → elementAt (lineTo L) l p ≡ record { x = p * side L l; level = l }
+  unfolding elementAt lineTo
   at-closed zero p shallow below =
       let only : p ≡ 0 = omega arith in
       line-path _ _ (sym (ap (λ (k : ℕ). k * side L 0) only ∙ zero-mul (side L 0))) refl
@@ -38,7 +38,7 @@ module _ (L : ℕ) where
       let shallow = sound-level L l (e .x) sound in
       let on = sound-grid L l (e .x) sound in
       let below : u < 2 ^ l = units-lt L l (e .x) shallow on in
-      let here : at (lineTo L) l u ≡ e = at-closed l u shallow below ∙ line-path _ e (grid-units L l (e .x) on) refl in
+      let here : elementAt (lineTo L) l u ≡ e = at-closed l u shallow below ∙ line-path _ e (grid-units L l (e .x) on) refl in
       ap (position (lineTo L)) (sym here) ∙ position-at (lineTo L) (lawful L) l u shallow below
 
   -- the first descendant keeps the anchor

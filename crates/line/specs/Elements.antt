@@ -6,7 +6,7 @@
 --
 --   lineTo L      lines as a shape, highest level L
 --   line          "highest level 21 for all three"
---   elementOf     the outcome that a LineAnswer stands for
+--   lineOf     the outcome that a LineAnswer stands for
 --   element i     entry i of the two lent columns
 --   elements      all of them
 --
@@ -62,9 +62,9 @@ module _ (L : ℕ) where
 abbrev pub line : Shape Line
 line = lineTo 21
 
-abbrev pub elementOf : LineAnswer → Outcome Line
-elementOf (Is e) = accepted e
-elementOf (Refused number place) = refused number place
+abbrev pub lineOf : LineAnswer → Outcome Line
+lineOf (Is e) = accepted e
+lineOf (Refused number place) = refused number place
 
 abbrev pub element : List ℕ → List ℕ → ℕ → Line
 element levels xs i = record { x = getD xs i 0; level = getD levels i 0 }

@@ -1,15 +1,15 @@
 // Lines: the upright part of a prism. Each contract is one of the ten calls of `tree`, at this shape; `specs/Elements.antt` says
 // what a line is.
+use paper::CompareAnswer;
 use paper::NumberAnswer;
-use paper::OrderAnswer;
 use paper::TruthAnswer;
 ghost use mathlib.Core.Path.{_≡_};
 ghost use Prim.Native.Nat.{_<_};
 ghost use lib.Dec.{eqb};
 ghost use lib.ListN.{length};
-ghost use Rattle.paper.specs.Readings.{valueOf, truthOf, orderOf};
+ghost use Rattle.paper.specs.Readings.{valueOf, truthOf, comparisonOf};
 ghost use Rattle.tree.specs.Calls;
-ghost use Rattle.line.specs.Elements.{line, elementOf, elements};
+ghost use Rattle.line.specs.Elements.{line, lineOf, elements};
 
 mod family;
 mod work;
@@ -35,7 +35,7 @@ impl Line {
 
     // The element of a level at a position. Refused: 1, 5.
     pub fn at(level: u8, position: u64) -> LineAnswer
-        ensures { λ r. ⌜ elementOf r ≡ Calls.at line level position ⌝ }
+        ensures { λ r. ⌜ lineOf r ≡ Calls.at line level position ⌝ }
     {
         if 21 < level {
             return LineAnswer::Refused(1, 0);
@@ -59,7 +59,7 @@ impl Line {
 
     // The element that this one is a child of. Refused: 1, 2, 6.
     pub fn parent(self) -> LineAnswer
-        ensures { λ r. ⌜ elementOf r ≡ Calls.parent line self ⌝ }
+        ensures { λ r. ⌜ lineOf r ≡ Calls.parent line self ⌝ }
     {
         let fault = self.fault();
         if fault != 0 {
@@ -73,7 +73,7 @@ impl Line {
 
     // A child by its number. Refused: 1, 2, 7, 8.
     pub fn child(self, number: u8) -> LineAnswer
-        ensures { λ r. ⌜ elementOf r ≡ Calls.child line self number ⌝ }
+        ensures { λ r. ⌜ lineOf r ≡ Calls.child line self number ⌝ }
     {
         let fault = self.fault();
         if fault != 0 {
@@ -90,7 +90,7 @@ impl Line {
 
     // The next element of the level. Refused: 1, 2, 9.
     pub fn successor(self) -> LineAnswer
-        ensures { λ r. ⌜ elementOf r ≡ Calls.successor line self ⌝ }
+        ensures { λ r. ⌜ lineOf r ≡ Calls.successor line self ⌝ }
     {
         let fault = self.fault();
         if fault != 0 {
@@ -106,7 +106,7 @@ impl Line {
 
     // The first descendant at a level. Refused: 1, 2, then 1, 6 for the level.
     pub fn first_descendant(self, level: u8) -> LineAnswer
-        ensures { λ r. ⌜ elementOf r ≡ Calls.first line self level ⌝ }
+        ensures { λ r. ⌜ lineOf r ≡ Calls.first line self level ⌝ }
     {
         let fault = self.fault();
         if fault != 0 {
@@ -123,7 +123,7 @@ impl Line {
 
     // The last descendant at a level. Refused: 1, 2, then 1, 6 for the level.
     pub fn last_descendant(self, level: u8) -> LineAnswer
-        ensures { λ r. ⌜ elementOf r ≡ Calls.last line self level ⌝ }
+        ensures { λ r. ⌜ lineOf r ≡ Calls.last line self level ⌝ }
     {
         let fault = self.fault();
         if fault != 0 {
@@ -140,7 +140,7 @@ impl Line {
 
     // The element across a face. Refused: 1, 2, 8, 10.
     pub fn neighbour(self, face: u8) -> LineAnswer
-        ensures { λ r. ⌜ elementOf r ≡ Calls.neighbour line self face ⌝ }
+        ensures { λ r. ⌜ lineOf r ≡ Calls.neighbour line self face ⌝ }
     {
         let fault = self.fault();
         if fault != 0 {
@@ -153,16 +153,16 @@ impl Line {
     }
 
     // The order of two elements. Refused: 1, 2, at place 0 or 1.
-    pub fn compare(self, other: Line) -> OrderAnswer
-        ensures { λ r. ⌜ orderOf r ≡ Calls.order line self other ⌝ }
+    pub fn compare(self, other: Line) -> CompareAnswer
+        ensures { λ r. ⌜ comparisonOf r ≡ Calls.order line self other ⌝ }
     {
         let fault = self.fault();
         if fault != 0 {
-            return OrderAnswer::Refused(fault, 0);
+            return CompareAnswer::Refused(fault, 0);
         }
         let second = other.fault();
         if second != 0 {
-            return OrderAnswer::Refused(second, 1);
+            return CompareAnswer::Refused(second, 1);
         }
         tree::order(self.x as u64, self.level, other.x as u64, other.level)
     }

@@ -4,7 +4,7 @@ use crate::LineAnswer;
 ghost use mathlib.Core.Path.{_≡_};
 ghost use Prim.Native.Nat.{_^_, _≤_, _<_};
 ghost use Rattle.tree.specs.Words;
-ghost use Rattle.line.specs.Elements.{line, elementOf};
+ghost use Rattle.line.specs.Elements.{line, lineOf};
 
 // No check fails.
 const SOUND: u8 = 0;
@@ -73,7 +73,7 @@ impl Line {
 
     pub(crate) fn across(self, face: u8) -> LineAnswer
         requires { ⌜ (line .fault self ≡ 0) × (face < 2) ⌝ }
-        ensures { λ r. ⌜ elementOf r ≡ line .neighbour self face ⌝ }
+        ensures { λ r. ⌜ lineOf r ≡ line .neighbour self face ⌝ }
     {
         let level = self.level;
         let x = tree::moved(self.x, 2 * face, tree::side(level));
@@ -87,7 +87,7 @@ impl Line {
 // The element at a position that the level has.
 pub(crate) fn placed(level: u8, position: u64) -> Line
     requires { ⌜ (level ≤ 21) × (position < 2 ^ level) ⌝ }
-    ensures { λ r. ⌜ r ≡ Words.at line level position ⌝ }
+    ensures { λ r. ⌜ r ≡ Words.elementAt line level position ⌝ }
 {
     Line {
         x: (position as u32) << (21 - level),

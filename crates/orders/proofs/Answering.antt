@@ -13,9 +13,9 @@ use Rattle.paper.specs.declared.NumberAnswer.the-variants as number
 use Rattle.paper.proofs.Scan.{scan-accepted, scan-all, accepted-of}
 use Rattle.orders.specs.declared.Form.{Form}
 use Rattle.orders.specs.Fields.{fields}
-use Rattle.orders.specs.Orders.{fault, orderOf, decided}
+use Rattle.orders.specs.Orders.{fault, orderIn, decided}
 use Rattle.orders.specs.Calls.{output, Answered}
-use Rattle.orders.specs.Steps.{Put, SoundForm, Sound}
+use Rattle.orders.specs.Steps.{Put, OrderlyForm, Orderly}
 use Rattle.orders.proofs.Coming.{closed}
 use Rattle.orders.proofs.Deciding.{lastly}
 use Rattle.orders.proofs.Bounds.{InRange, in-range}
@@ -50,15 +50,15 @@ module _ (s : List ℕ) (f : Form) (is : decided s ≡ accepted f) where
   pub form-range : InRange (fields s)
   form-range = in-range (fields s) form-clean
 
-  pub form-is : orderOf (fields s) ≡ f
-  form-is = let same = accepted-of (not (closed s 7)) 23 8 (accepted (orderOf (fields s))) f (parts .1) .1 in cc
+  pub form-is : orderIn (fields s) ≡ f
+  form-is = let same = accepted-of (not (closed s 7)) 23 8 (accepted (orderIn (fields s))) f (parts .1) .1 in cc
 
-  pub form-sound : SoundForm f
+  pub form-sound : OrderlyForm f
   form-sound =
       let range = form-range in
-      subst SoundForm form-is
+      subst OrderlyForm form-is
       record { counted = refl; few-leaves = range .few-leaves; some-share = range .some-share; few-shares = range .few-shares }
 
-pub decided-sound : (s : List ℕ) (o : Outcome Form) → o ≡ decided s → Sound o
+pub decided-sound : (s : List ℕ) (o : Outcome Form) → o ≡ decided s → Orderly o
 decided-sound s (accepted f) is = form-sound s f (sym is)
 decided-sound s (refused number place) is = tt

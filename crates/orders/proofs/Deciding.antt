@@ -13,7 +13,7 @@ use Rattle.paper.proofs.Scan.{scan-step, scan-found}
 use Rattle.orders.specs.declared.Form.{Form}
 use Rattle.orders.specs.declared.Found.{Found}
 use Rattle.orders.specs.Fields.{fields, value, asMeant, number}
-use Rattle.orders.specs.Orders.{outside, formFault, fault, orderOf, decided}
+use Rattle.orders.specs.Orders.{outside, formFault, fault, orderIn, decided}
 use Rattle.orders.specs.Steps.{piece, next, Taken}
 use Rattle.orders.proofs.Ranges.{outside-same}
 use Rattle.orders.proofs.Taking.{taken-inside}
@@ -22,7 +22,7 @@ use Rattle.orders.proofs.Coming.{Come, come-start, closed, missing-test
 
 -- what is left to decide after the seventh field
 abbrev pub lastly : List ℕ → Outcome Form
-lastly s = refuse-when-at (not (closed s 7)) 23 8 (accepted (orderOf (fields s)))
+lastly s = refuse-when-at (not (closed s 7)) 23 8 (accepted (orderIn (fields s)))
 
 -- before field i, with the numbers v of the fields before it
 pub record Reading (s v : List ℕ) (at end i : ℕ) : Type 0 where

@@ -12,7 +12,7 @@ use borrow.Author.Tests.{ne-eqb, le-leb, lt-leb, eqb-true, eqb-false}
 use Rattle.paper.specs.Outcome.{Outcome, accepted, refused, refuse-when-at, fault-when, scan, rows}
 use Rattle.paper.proofs.Scan.{fault-taken}
 use Rattle.orders.specs.Fields.{fields, ended, isNumber, value, seventh, asMeant, given, number}
-use Rattle.orders.specs.Orders.{outside, formFault, fault, orderOf, inOrder, decided}
+use Rattle.orders.specs.Orders.{outside, formFault, fault, orderIn, inOrder, decided}
 use Rattle.orders.proofs.Ranges.{outside-same}
 use Rattle.orders.proofs.FirstBytes.{Alike, same, long, more, over, alike-take}
 
@@ -86,7 +86,7 @@ long-fault ps gs f far =
 
 -- ---- lines that are alike
 -- more than seven fields
-over-last : (fs : List (List ℕ)) (w : Bool) → 7 < length fs → refuse-when-at (not (eqb (length fs) 7 && w)) 23 8 (accepted (orderOf fs)) ≡ refused 23 8
+over-last : (fs : List (List ℕ)) (w : Bool) → 7 < length fs → refuse-when-at (not (eqb (length fs) 7 && w)) 23 8 (accepted (orderIn fs)) ≡ refused 23 8
 over-last fs w many = simp (ne-eqb (length fs) 7 (λ d. omega (arith, d)))
 
 decided-alike : (k : ℕ) (ps gs gs′ : List (List ℕ)) (w w′ : Bool) → length ps + k ≡ 7 → Alike k gs w gs′ w′ → inOrder (ps ++ gs) w ≡ inOrder (ps ++ gs′) w′

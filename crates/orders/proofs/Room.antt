@@ -10,7 +10,7 @@ use Rattle.shares.specs.Shares.{boundary}
 use Rattle.orders.specs.declared.Form.{Form}
 use Rattle.orders.specs.Fields.{lf}
 use Rattle.orders.specs.Text.{blank, decimal, counted, entry, wordRefused, wordField, firstLine, shareLine, joined, shareLines, weights, printed}
-use Rattle.orders.specs.Steps.{SoundForm, Sound}
+use Rattle.orders.specs.Steps.{OrderlyForm, Orderly}
 use Rattle.orders.proofs.Decimals.{decimal-few, entry-few}
 use Rattle.orders.proofs.Sharing.{first-few, boundary-first}
 
@@ -32,7 +32,7 @@ joined-few line i (suc k) short =
     let onward = joined-few line (suc i) k (λ s below. short s (omega arith)) in
     omega (arith, length-append (line i) (joined (rows line (suc i) k)))
 
-module _ (f : Form) (sound : SoundForm f) where
+module _ (f : Form) (sound : OrderlyForm f) where
   boundary-few : (s : ℕ) → s ≤ f .shares → boundary (f .shares) (weights f) s ≤ 1048576
   boundary-few s inside =
       let part : s * f .leaves / f .shares ≤ f .leaves = div-le-of-le-mul (f .shares) (mul-le-mul-right (f .leaves) inside) in
@@ -46,7 +46,7 @@ module _ (f : Form) (sound : SoundForm f) where
       (λ s below. line-few s (boundary (f .shares) (weights f) s) (boundary (f .shares) (weights f) (s + 1)) (omega arith) (boundary-few s (omega arith)) (boundary-few (s + 1) (omega arith))) in
       omega (arith, first-few f, length-append (firstLine f) (shareLines (boundary (f .shares) (weights f)) (f .shares)))
 
-pub printed-few : (o : Outcome Form) → Sound o → length (printed o) ≤ 86212
+pub printed-few : (o : Outcome Form) → Orderly o → length (printed o) ≤ 86212
 printed-few (accepted f) sound = form-few f sound
 printed-few (refused number field) sound =
     omega (arith, entry-few wordRefused number blank 29 (omega arith), entry-few wordField field lf 27 (omega arith), length-append (entry wordRefused number blank) (entry wordField field lf))

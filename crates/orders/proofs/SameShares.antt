@@ -21,7 +21,7 @@ use Rattle.leaves.proofs.UniformValid.{uniform-valid}
 use Rattle.shares.specs.Calls.{weightFault, shares}
 use Rattle.orders.specs.declared.Form.{Form}
 use Rattle.orders.specs.Text.{weights}
-use Rattle.orders.specs.Steps.{SoundForm}
+use Rattle.orders.specs.Steps.{OrderlyForm}
 use Rattle.orders.specs.Laws.{started, SameShares}
 use Rattle.orders.proofs.Sharing.{boundary-first}
 
@@ -54,7 +54,7 @@ weights-pass i (v ∷ vs) rest = weights-pass (suc i) vs rest
 in-range-test : (P : ℕ) → 0 < P → P ≤ 4096 → not (outOfRange P) ≡ true
 in-range-test P some few = simp (ne-eqb P 0 (λ none. omega (arith, none)), le-ltb 4096 P few)
 
-module _ (f : Form) (sound : SoundForm f) (some : 0 < f .roots) (few : f .roots ≤ 4096) (shallow : f .level ≤ 21) where
+module _ (f : Form) (sound : OrderlyForm f) (some : 0 < f .roots) (few : f .roots ≤ 4096) (shallow : f .level ≤ 21) where
   valid : ValidList 8 21 (f .roots) (rootsOf (started f)) (levelsOf (started f)) (positionsOf (started f))
   valid =
       let covers : Valid 8 21 (f .roots) (started f) = uniform-valid 8 21 (f .level) (omega arith) shallow (f .roots) in

@@ -13,7 +13,7 @@ use Rattle.shares.proofs.Promised.{promised}
 use Rattle.orders.specs.declared.Form.{Form}
 use Rattle.orders.specs.Fields.{lf}
 use Rattle.orders.specs.Text.{blank, counted, entry, wordOrder, wordSite, wordModel, wordRoots, wordLevel, wordLeaves, wordShares, firstLine, shareLine, joined, shareLines, weights, printed}
-use Rattle.orders.specs.Steps.{Put, SoundForm}
+use Rattle.orders.specs.Steps.{Put, OrderlyForm}
 use Rattle.orders.proofs.Writing.{put-then}
 use Rattle.orders.proofs.Decimals.{entry-few}
 
@@ -25,7 +25,7 @@ rows-same a i (suc k) = ap (λ (xs : List _). a ∷ xs) (rows-same a (suc i) k)
 pub weights-one : (f : Form) → weights f ≡ replicate (f .roots * 8 ^ f .level) 1
 weights-one f = map-rows (λ (v : Leaf). 1) _ 0 (f .roots * 8 ^ f .level) ∙ rows-same 1 0 (f .roots * 8 ^ f .level)
 
-module _ (f : Form) (sound : SoundForm f) where
+module _ (f : Form) (sound : OrderlyForm f) where
   pub boundary-first : (s : ℕ) → s ≤ f .shares → s * f .leaves / f .shares ≡ boundary (f .shares) (weights f) s
   boundary-first s inside =
       let one : 0 < 1 = omega arith in
@@ -44,7 +44,7 @@ lines-alike start start′ P alike =
     ap joined
     (rows-alike _ _ 0 P (λ s below. ap₂ (shareLine s) (alike s (omega arith)) (alike (s + 1) (omega arith))))
 
-pub printed-form : (f : Form) (e r : ℕ) (l m l′ : List ℕ) → SoundForm f → Put (firstLine f) 0 l m e
+pub printed-form : (f : Form) (e r : ℕ) (l m l′ : List ℕ) → OrderlyForm f → Put (firstLine f) 0 l m e
     → Put (shareLines (λ s. s * f .leaves / f .shares) (f .shares)) e m l′ r → Put (printed (accepted f)) 0 l l′ r
 printed-form f e r l m l′ sound line lines =
     put-then line (subst (λ (t : List ℕ). Put t e m l′ r) (lines-alike _ _ (f .shares) (boundary-first f sound)) lines)

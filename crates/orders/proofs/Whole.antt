@@ -9,7 +9,7 @@ use Rattle.paper.specs.Outcome.{accepted, refused, refuse-when-at, scan}
 use Rattle.paper.proofs.Scan.{rows-done}
 use Rattle.orders.specs.declared.Form.{Form}
 use Rattle.orders.specs.Fields.{fields, number}
-use Rattle.orders.specs.Orders.{fault, orderOf, decided}
+use Rattle.orders.specs.Orders.{fault, orderIn, decided}
 use Rattle.orders.specs.Steps.{closes}
 use Rattle.leaves.proofs.Starting.{count-exact}
 use Rattle.orders.proofs.Bounds.{InRange, in-range}
@@ -27,18 +27,18 @@ module _ (s v : List ℕ) (at end i : ℕ) (reading : Reading s v at end i) wher
     eight : i ≡ 8
     eight = let few = reading .few in omega arith
 
-    pub reading-last : decided s ≡ refuse-when-at (not (closes s end)) 23 8 (accepted (orderOf (fields s)))
+    pub reading-last : decided s ≡ refuse-when-at (not (closes s end)) 23 8 (accepted (orderIn (fields s)))
     reading-last =
         let seven : i - 1 ≡ 7 = omega (arith, eight) in
         let come : Come s 7 at end = subst (λ (k : ℕ). Come s k at end) seven (reading .come) in
         reading .scanned
         ∙ ap (λ (js : List ℕ). scan (fault (fields s)) i js (lastly s)) (rows-done (λ j. j) 8 i done)
-        ∙ ap (λ (t : Bool). refuse-when-at (not t) 23 8 (accepted (orderOf (fields s)))) (come .closing (omega arith))
+        ∙ ap (λ (t : Bool). refuse-when-at (not t) 23 8 (accepted (orderIn (fields s)))) (come .closing (omega arith))
 
     pub reading-open : closes s end ≡ false → refused 23 8 ≡ decided s
     reading-open loose = sym (reading-last ∙ simp loose)
 
-    reading-whole : closes s end ≡ true → accepted (orderOf (fields s)) ≡ decided s
+    reading-whole : closes s end ≡ true → accepted (orderIn (fields s)) ≡ decided s
     reading-whole whole = sym (reading-last ∙ simp whole)
 
     pub reading-range : InRange (fields s)

@@ -18,7 +18,7 @@ use Rattle.shares.specs.Shares.{boundary}
 use Rattle.shares.specs.Calls.{shares}
 use Rattle.orders.specs.declared.Form.{Form}
 use Rattle.orders.specs.Fields.{fields, number}
-use Rattle.orders.specs.Orders.{orderOf, decided}
+use Rattle.orders.specs.Orders.{orderIn, decided}
 use Rattle.orders.specs.Text.{decimal, weights}
 use Rattle.orders.specs.Calls.{output}
 
@@ -33,7 +33,7 @@ pub record SameShares (f : Form) : Type 0 where
 
 pub record Promised : Type 0 where
   pub first-bytes : (s : List ℕ) → output (take 71 s) ≡ output s
-  pub ordered : (s : List ℕ) (f : Form) → decided s ≡ accepted f → orderOf (fields s) ≡ f
+  pub ordered : (s : List ℕ) (f : Form) → decided s ≡ accepted f → orderIn (fields s) ≡ f
   pub repeats : (s : List ℕ) (f : Form) (i : ℕ) → decided s ≡ accepted f → 1 ≤ i → i ≤ 6 → decimal (number (fields s) i) ≡ getD (fields s) (i - 1) []
   pub same-shares : (s : List ℕ) (f : Form) → decided s ≡ accepted f → SameShares f
   pub room : (s : List ℕ) → length (output s) ≤ 86212

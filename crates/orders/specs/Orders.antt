@@ -4,7 +4,7 @@
 --   outside i v K L   the refusal of the number v in field i, 0 where there is none; K and L are the numbers of fields four and five
 --   formFault         23 where field i is missing or is no number, else what else it has
 --   fault fs i        the refusal of field i
---   orderOf fs        the numbers of the first line, in its order
+--   orderIn fs        the numbers of the first line, in its order
 --   inOrder fs whole  "fields left to right": the first of the seven with a refusal; then field 8, unless the line is whole, with no eighth field
 --   decided s         what the input s asks for: its order, or its refusal with the field as place
 --   formOf            the outcome that a FormAnswer stands for
@@ -36,8 +36,8 @@ formFault missing f rest = fault-when missing 23 (fault-when (not (isNumber f)) 
 abbrev pub fault : List (List ℕ) → ℕ → ℕ
 fault fs i = formFault (leb (length fs) (i - 1)) (given fs i) (outside i (number fs i) (number fs 4) (number fs 5))
 
-abbrev pub orderOf : List (List ℕ) → Form
-orderOf fs =
+abbrev pub orderIn : List (List ℕ) → Form
+orderIn fs =
     record {
       order = number fs 1;
       site = number fs 2;
@@ -52,7 +52,7 @@ abbrev pub inOrder : List (List ℕ) → Bool → Outcome Form
 inOrder fs whole =
     scan (fault fs) 1 (rows (λ i. i) 1 7)
     (refuse-when-at (not (eqb (length fs) 7 && whole)) 23 8
-    (accepted (orderOf fs)))
+    (accepted (orderIn fs)))
 
 abbrev pub decided : List ℕ → Outcome Form
 decided s = inOrder (fields s) (ended s)

@@ -7,7 +7,7 @@
 --   numbered f       the number in the field f, refused 23 where it is none
 --   Taken            field i from the cursor on: its refusal, and where it has none, its number and where it ends
 --   Put t at l l′ r  the bytes t stand in l′ from at on, what lies past the end of l left out, and r is where they end
---   Sound o          what an accepted order keeps to: how many leaves and shares it may have
+--   Orderly o          what an accepted order keeps to: how many leaves and shares it may have
 --
 -- Assumes nothing.
 use mathlib.Core.Path.{_≡_}
@@ -46,12 +46,12 @@ pub record Put (t : List ℕ) (at : ℕ) (l l′ : List ℕ) (r : ℕ) : Type 0 
   pub written : l′ ≡ sets l at t
   pub end : r ≡ at + length t
 
-pub record SoundForm (f : Form) : Type 0 where
+pub record OrderlyForm (f : Form) : Type 0 where
   pub counted : f .leaves ≡ f .roots * 8 ^ f .level
   pub few-leaves : f .leaves ≤ limit
   pub some-share : 0 < f .shares
   pub few-shares : f .shares ≤ 4096
 
-abbrev pub Sound : Outcome Form → Type 0
-Sound (accepted f) = SoundForm f
-Sound (refused number place) = Unit {0}
+abbrev pub Orderly : Outcome Form → Type 0
+Orderly (accepted f) = OrderlyForm f
+Orderly (refused number place) = Unit {0}

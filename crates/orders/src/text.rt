@@ -11,7 +11,7 @@ ghost use Rattle.orders.specs.Fields.{lf};
 ghost use Rattle.orders.specs.Text.{blank, counted, shareLine, shareLines, firstLine, wordRefused, wordField, printed};
 ghost use Rattle.orders.specs.Text.{decimal as Text·decimal};
 ghost use Rattle.orders.specs.Text.{entry as Text·entry};
-ghost use Rattle.orders.specs.Steps.{Put, Sound};
+ghost use Rattle.orders.specs.Steps.{Put, Orderly};
 
 // One byte.
 fn put(out: &mut [u8], at: usize, b: u8)
@@ -121,7 +121,7 @@ fn refusal(out: &mut [u8], fault: u8, field: u64) -> usize
 
 // All that is printed.
 pub(crate) fn answer(asked: FormAnswer, out: &mut [u8]) -> usize
-    requires { ⌜ Sound (formOf asked) ⌝ }
+    requires { ⌜ Orderly (formOf asked) ⌝ }
     ensures { λ r. ⌜ Put (printed (formOf asked)) 0 (now (out .entry)) (now (out .exit)) r ⌝ }
 {
     match asked {

@@ -1,3 +1,4 @@
 pub mod Outcome
 pub mod Readings
 pub mod Memory
+pub mod Exactly

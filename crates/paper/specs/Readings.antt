@@ -1,7 +1,7 @@
 -- Document 01, "The right form for each place": "For each answer that is an enum, a definition gives this paper's number and
 -- values for each of the enum's cases, and the promises use that definition."
 --
---   valueOf, truthOf, orderOf, passOf   the outcome that a NumberAnswer, a TruthAnswer, an OrderAnswer, a PassAnswer stands for
+--   valueOf, truthOf, comparisonOf, passOf   the outcome that a NumberAnswer, a TruthAnswer, an CompareAnswer, a PassAnswer stands for
 --   checksOf                        the outcome that a Fault stands for: number 0 is none
 --
 -- Assumes nothing.
@@ -10,13 +10,13 @@ use Prim.Native.Nat.{ℕ}
 use lib.Dec.{eqb}
 use Rattle.paper.specs.declared.NumberAnswer.{NumberAnswer}
 use Rattle.paper.specs.declared.TruthAnswer.{TruthAnswer}
-use Rattle.paper.specs.declared.OrderAnswer.{OrderAnswer}
+use Rattle.paper.specs.declared.CompareAnswer.{CompareAnswer}
 use Rattle.paper.specs.declared.PassAnswer.{PassAnswer}
 use Rattle.paper.specs.declared.Fault.{Fault}
 use Rattle.paper.specs.Outcome.{Outcome, accepted, refused, passed, refuse-when-at, Order, less, same, greater}
 use Rattle.paper.specs.declared.NumberAnswer.the-variants as number
 use Rattle.paper.specs.declared.TruthAnswer.the-variants as truth
-use Rattle.paper.specs.declared.OrderAnswer.the-variants as order
+use Rattle.paper.specs.declared.CompareAnswer.the-variants as order
 use Rattle.paper.specs.declared.PassAnswer.the-variants as pass
 
 abbrev pub valueOf : NumberAnswer → Outcome ℕ
@@ -27,11 +27,11 @@ abbrev pub truthOf : TruthAnswer → Outcome Bool
 truthOf (truth.Is yes-or-no) = accepted yes-or-no
 truthOf (truth.Refused number place) = refused number place
 
-abbrev pub orderOf : OrderAnswer → Outcome Order
-orderOf order.Less = accepted less
-orderOf order.Same = accepted same
-orderOf order.Greater = accepted greater
-orderOf (order.Refused number place) = refused number place
+abbrev pub comparisonOf : CompareAnswer → Outcome Order
+comparisonOf order.Less = accepted less
+comparisonOf order.Same = accepted same
+comparisonOf order.Greater = accepted greater
+comparisonOf (order.Refused number place) = refused number place
 
 abbrev pub passOf : PassAnswer → Outcome (Unit {0})
 passOf pass.Passed = passed

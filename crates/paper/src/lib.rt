@@ -20,7 +20,7 @@ pub enum PassAnswer {
 }
 
 // The order of two elements.
-pub enum OrderAnswer {
+pub enum CompareAnswer {
     Less,
     Same,
     Greater,

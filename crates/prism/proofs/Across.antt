@@ -21,7 +21,7 @@ use Rattle.line.specs.Elements as line
 use Rattle.prism.specs.declared.rows.Side.{Side}
 use Rattle.prism.specs.declared.Prism.{Prism}
 use Rattle.prism.specs.Rows.{sided, sideRow}
-use Rattle.prism.specs.Elements.{fault, neighbour, triangleOf, lineOf, joined}
+use Rattle.prism.specs.Elements.{fault, neighbour, plan, upright, product}
 use Rattle.prism.proofs.Laws.{grids}
 
 -- ---- the rows
@@ -68,7 +68,7 @@ or-last false = refl
 
 -- ---- it is the neighbour
 module _ (e : Prism) (sound : fault 21 e ≡ 0) where
-  k : Known 21 (triangleOf e)
+  k : Known 21 (plan e)
   k = grids 21 e sound .0
 
   h : ℕ
@@ -82,7 +82,7 @@ module _ (e : Prism) (sound : fault 21 e ≡ 0) where
       let rest = not (insideRoot (f .kind) (moved h (f .x) (e .x)) (moved h (f .y) (e .y))) in
       let stays = still-stays 21 h (e .z) (grid-lt 21 (e .level) (e .z) (grids 21 e sound .1)) in
       simp (lt-ltb i 3 small)
-      (mapped-refuse (λ (t : Triangle). joined t (lineOf e)) (offEdge 21 h (f .x) (e .x) || (offEdge 21 h (f .y) (e .y) || rest)) (record { x = moved h (f .x) (e .x); y = moved h (f .y) (e .y); level = e .level; kind = f .kind })
+      (mapped-refuse (λ (t : Triangle). product t (upright e)) (offEdge 21 h (f .x) (e .x) || (offEdge 21 h (f .y) (e .y) || rest)) (record { x = moved h (f .x) (e .x); y = moved h (f .y) (e .y); level = e .level; kind = f .kind })
       ∙ ap₂ (λ (t : Bool) (z : ℕ). refuse-when (offEdge 21 h (f .x) (e .x) || (offEdge 21 h (f .y) (e .y) || t)) 10 (accepted (record { x = moved h (f .x) (e .x); y = moved h (f .y) (e .y); z = z; level = e .level; kind = f .kind })))
       (sym (ap (λ (m : Bool). m || rest) stays))
       (sym (still h (e .z)))
@@ -101,11 +101,11 @@ module _ (e : Prism) (sound : fault 21 e ≡ 0) where
       ap₂ (λ (a b : Bool). a || (b || (offEdge 21 h m (e .z) || not (insideRoot (e .kind) (moved h 1 (e .x)) (moved h 1 (e .y)))))) stays-x stays-y
       ∙ ap (λ (t : Bool). offEdge 21 h m (e .z) || t) inside
       ∙ or-last (offEdge 21 h m (e .z)) in
-      let here : there e (sided 1 1 m (e .kind)) h ≡ joined (triangleOf e) (record { x = moved h m (e .z); level = e .level }) =
+      let here : there e (sided 1 1 m (e .kind)) h ≡ product (plan e) (record { x = moved h m (e .z); level = e .level }) =
       λ j. record { x = still h (e .x) j; y = still h (e .y) j; z = moved h m (e .z); level = e .level; kind = e .kind } in
       simp (le-ltb (3 + i) 3 (omega arith))
-      (ap (λ (n : ℕ). mapped (λ (l : Line). joined (triangleOf e) l) (line.neighbour 21 (lineOf e) n)) same
-      ∙ mapped-refuse (λ (l : Line). joined (triangleOf e) l) (offEdge 21 h m (e .z)) (record { x = moved h m (e .z); level = e .level })
+      (ap (λ (n : ℕ). mapped (λ (l : Line). product (plan e) l) (line.neighbour 21 (upright e) n)) same
+      ∙ mapped-refuse (λ (l : Line). product (plan e) l) (offEdge 21 h m (e .z)) (record { x = moved h m (e .z); level = e .level })
       ∙ sym (ap₂ (λ (t : Bool) (f : Prism). refuse-when t 10 (accepted f)) test here)
       ∙ ap (acrossBy e) (sym (side-upright (e .kind) i (k .typed) small)))
 

@@ -18,14 +18,14 @@ use Rattle.line.proofs.Laws as line-laws
 use Rattle.triangle.specs.Elements as triangle
 use Rattle.triangle.proofs.Laws as triangle-laws
 use Rattle.prism.specs.declared.Prism.{Prism}
-use Rattle.prism.specs.Elements.{prismTo, fault, triangleOf, lineOf, joined, child, parent, number}
+use Rattle.prism.specs.Elements.{prismTo, fault, plan, upright, product, child, parent, number}
 
 pub prism-path : (e f : Prism) → e .x ≡ f .x → e .y ≡ f .y → e .z ≡ f .z → e .level ≡ f .level → e .kind ≡ f .kind → e ≡ f
 prism-path e f p q r s t = λ i. record { x = p i; y = q i; z = r i; level = s i; kind = t i }
 
 module _ (L : ℕ) where
   -- ---- a sound prism is a sound triangle times a sound line
-  pub grids : (e : Prism) → fault L e ≡ 0 → Known L (triangleOf e) × (offGrid L (e .level) (e .z) ≡ false)
+  pub grids : (e : Prism) → fault L e ≡ 0 → Known L (plan e) × (offGrid L (e .level) (e .z) ≡ false)
   grids e sound =
       let after-1 = no-fault (ltb L (e .level)) 0 _ sound in
       let after-2 = no-fault (offGrid L (e .level) (e .x) || (offGrid L (e .level) (e .y) || offGrid L (e .level) (e .z))) 1 _ (after-1 .1) in
@@ -44,15 +44,15 @@ module _ (L : ℕ) where
         y-on .1,
       )
 
-  pub triangle-sound : (e : Prism) → fault L e ≡ 0 → triangle.fault L (triangleOf e) ≡ 0
-  triangle-sound e sound = triangle-laws.sound L (triangleOf e) (grids e sound .0)
+  pub triangle-sound : (e : Prism) → fault L e ≡ 0 → triangle.fault L (plan e) ≡ 0
+  triangle-sound e sound = triangle-laws.sound L (plan e) (grids e sound .0)
 
-  pub line-sound : (e : Prism) → fault L e ≡ 0 → line.fault L (lineOf e) ≡ 0
+  pub line-sound : (e : Prism) → fault L e ≡ 0 → line.fault L (upright e) ≡ 0
   line-sound e sound = line-laws.grid-sound L (e .level) (e .z) (grids e sound .0 .shallow) (grids e sound .1)
 
-  pub joined-sound : (e : Prism) → triangle.fault L (triangleOf e) ≡ 0 → line.fault L (lineOf e) ≡ 0 → fault L e ≡ 0
+  pub joined-sound : (e : Prism) → triangle.fault L (plan e) ≡ 0 → line.fault L (upright e) ≡ 0 → fault L e ≡ 0
   joined-sound e in-plan upright =
-      let k = triangle-laws.known L (triangleOf e) in-plan in
+      let k = triangle-laws.known L (plan e) in-plan in
       let z-on = line-laws.sound-grid L (e .level) (e .z) upright in
       simp (le-ltb L (e .level) (k .shallow), k .grid-x, k .grid-y, z-on, le-ltb 1 (e .kind) (omega (arith, k .typed)), k .inside)
 
@@ -73,51 +73,51 @@ module _ (L : ℕ) where
   unfolding triangleTo lineTo
   child-sound e i sound room small =
       joined-sound (child L e i)
-      (T .child-sound (triangleOf e) (i % 4) (triangle-sound e sound) room (plan-lt i small))
-      (M .child-sound (lineOf e) (i / 4) (line-sound e sound) room (upright-lt i small))
+      (T .child-sound (plan e) (i % 4) (triangle-sound e sound) room (plan-lt i small))
+      (M .child-sound (upright e) (i / 4) (line-sound e sound) room (upright-lt i small))
 
   parent-sound : (e : Prism) → fault L e ≡ 0 → 0 < e .level → fault L (parent L e) ≡ 0
   unfolding triangleTo lineTo
   parent-sound e sound deep =
       joined-sound (parent L e)
-      (T .parent-sound (triangleOf e) (triangle-sound e sound) deep)
-      (M .parent-sound (lineOf e) (line-sound e sound) deep)
+      (T .parent-sound (plan e) (triangle-sound e sound) deep)
+      (M .parent-sound (upright e) (line-sound e sound) deep)
 
   number-lt : (e : Prism) → fault L e ≡ 0 → 0 < e .level → number L e < 8
   unfolding triangleTo lineTo
   number-lt e sound deep =
-      omega (arith, T .number-lt (triangleOf e) (triangle-sound e sound) deep, M .number-lt (lineOf e) (line-sound e sound) deep)
+      omega (arith, T .number-lt (plan e) (triangle-sound e sound) deep, M .number-lt (upright e) (line-sound e sound) deep)
 
   parent-child : (e : Prism) (i : ℕ) → fault L e ≡ 0 → e .level < L → i < 8 → parent L (child L e i) ≡ e
   unfolding triangleTo lineTo
   parent-child e i sound room small =
-      ap₂ joined
-      (T .parent-child (triangleOf e) (i % 4) (triangle-sound e sound) room (plan-lt i small))
-      (M .parent-child (lineOf e) (i / 4) (line-sound e sound) room (upright-lt i small))
+      ap₂ product
+      (T .parent-child (plan e) (i % 4) (triangle-sound e sound) room (plan-lt i small))
+      (M .parent-child (upright e) (i / 4) (line-sound e sound) room (upright-lt i small))
 
   number-child : (e : Prism) (i : ℕ) → fault L e ≡ 0 → e .level < L → i < 8 → number L (child L e i) ≡ i
   unfolding triangleTo lineTo
   number-child e i sound room small =
       ap₂ (λ (m t : ℕ). 4 * m + t)
-      (M .number-child (lineOf e) (i / 4) (line-sound e sound) room (upright-lt i small))
-      (T .number-child (triangleOf e) (i % 4) (triangle-sound e sound) room (plan-lt i small))
+      (M .number-child (upright e) (i / 4) (line-sound e sound) room (upright-lt i small))
+      (T .number-child (plan e) (i % 4) (triangle-sound e sound) room (plan-lt i small))
       ∙ omega arith
 
   child-parent : (e : Prism) → fault L e ≡ 0 → 0 < e .level → child L (parent L e) (number L e) ≡ e
   unfolding triangleTo lineTo
   child-parent e sound deep =
-      let t = triangle.number L (triangleOf e) in
-      let m = line.number L (lineOf e) in
-      let small = T .number-lt (triangleOf e) (triangle-sound e sound) deep in
-      ap₂ (λ (a b : ℕ). joined (triangle.child L (triangle.parent L (triangleOf e)) a) (line.child L (line.parent L (lineOf e)) b))
+      let t = triangle.number L (plan e) in
+      let m = line.number L (upright e) in
+      let small = T .number-lt (plan e) (triangle-sound e sound) deep in
+      ap₂ (λ (a b : ℕ). product (triangle.child L (triangle.parent L (plan e)) a) (line.child L (line.parent L (upright e)) b))
       (digit-mod 4 m t small)
       (digit-div 4 m t small)
-      ∙ ap₂ joined (T .child-parent (triangleOf e) (triangle-sound e sound) deep) (M .child-parent (lineOf e) (line-sound e sound) deep)
+      ∙ ap₂ product (T .child-parent (plan e) (triangle-sound e sound) deep) (M .child-parent (upright e) (line-sound e sound) deep)
 
   root-only : (e : Prism) → fault L e ≡ 0 → e .level ≡ 0 → e ≡ record { x = 0; y = 0; z = 0; level = 0; kind = 0 }
   unfolding triangleTo lineTo
   root-only e sound flat =
-      ap₂ joined (T .root-only (triangleOf e) (triangle-sound e sound) flat) (M .root-only (lineOf e) (line-sound e sound) flat)
+      ap₂ product (T .root-only (plan e) (triangle-sound e sound) flat) (M .root-only (upright e) (line-sound e sound) flat)
 
   same-refl : (e : Prism) → (prismTo L) .same e e ≡ true
   unfolding prismTo

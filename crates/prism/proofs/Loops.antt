@@ -7,7 +7,7 @@ use native.Mathlib.Numerals.{add-one}
 use native.Mathlib.Omega.{arith}
 use lib.Dec.{lit<}
 use Rattle.tree.specs.Anchors.{side, rounded}
-use Rattle.tree.specs.Words.{at, positionAt, position}
+use Rattle.tree.specs.Words.{elementAt, positionAt, position}
 use Rattle.tree.proofs.Anchor.{side-edge, units-child, units-rounded, units-bit, grid-units}
 use Rattle.tree.proofs.Walk.{reached-start, reached-step, reached-end, climbed-start, climbed-step, climbed-end, sum-below}
 use Rattle.line.proofs.Laws.{line-path}
@@ -17,7 +17,7 @@ use Rattle.triangle.specs.Rows.{step, childRow, parentKind, numberOf}
 use Rattle.triangle.proofs.Tables.{childRow-small, parentKind-lt, numberOf-lt}
 use Rattle.triangle.proofs.Units as plan
 use Rattle.prism.specs.declared.Prism.{Prism}
-use Rattle.prism.specs.Elements.{prism, prismTo, joined}
+use Rattle.prism.specs.Elements.{prism, prismTo, product}
 use Rattle.prism.proofs.Laws.{prism-path, grids}
 
 binary : prism .children ≡ 2 ^ 3
@@ -44,14 +44,14 @@ unit-child : (l u v w t d : ℕ) → l < 21
     ≡ unit (suc l) (2 * u + childRow t (d % 4) .x) (2 * v + childRow t (d % 4) .y) (2 * w + d / 4) (childRow t (d % 4) .kind)
 unfolding prismTo
 unit-child l u v w t d room =
-    ap₂ joined (plan.unit-child 21 l u v t (d % 4) room) (line-path _ (record { x = (2 * w + d / 4) * side 21 (suc l); level = suc l }) (units-child 21 l w (d / 4) room) refl)
+    ap₂ product (plan.unit-child 21 l u v t (d % 4) room) (line-path _ (record { x = (2 * w + d / 4) * side 21 (suc l); level = suc l }) (units-child 21 l w (d / 4) room) refl)
 
 unit-parent : (l u v w t : ℕ) → l < 21
     → prism .parent (unit (suc l) u v w t) ≡ unit l (u / 2) (v / 2) (w / 2) (parentKind (step (u % 2) (v % 2) t))
 unfolding prismTo
 unit-parent l u v w t room =
     let up : suc l - 1 ≡ l = omega arith in
-    ap₂ joined (plan.unit-parent 21 l u v t room)
+    ap₂ product (plan.unit-parent 21 l u v t room)
     (line-path _ (record { x = w / 2 * side 21 l; level = l }) (ap (λ (m : ℕ). rounded 21 m (w * side 21 (suc l))) up ∙ units-rounded 21 l w room) up)
 
 unit-number : (l u v w t : ℕ) → prism .number (unit l u v w t) ≡ 4 * (w % 2) + numberOf (step (u % 2) (v % 2) t)
@@ -61,7 +61,7 @@ unit-number l u v w t = ap₂ (λ (m n : ℕ). 4 * m + n) (units-bit 21 l w) (pl
 -- ---- down: what is reached with `left` levels to go
 pub record Reached (l p left x y z t : ℕ) : Type 0 where
   pub fewer : left ≤ l
-  pub here : at prism (l - left) (p / 2 ^ (3 * left)) ≡ unit (l - left) x y z t
+  pub here : elementAt prism (l - left) (p / 2 ^ (3 * left)) ≡ unit (l - left) x y z t
   pub wide : x < 2 ^ (l - left)
   pub deep : y < 2 ^ (l - left)
   pub high : z < 2 ^ (l - left)
@@ -125,7 +125,7 @@ module _ (l p : ℕ) (shallow : l ≤ 21) where
 
     pub end : left ≤ 0
         → record { x = x * side 21 l % 4294967296; y = y * side 21 l % 4294967296; z = z * side 21 l % 4294967296; level = l; kind = t }
-        ≡ at prism l p
+        ≡ elementAt prism l p
     end done =
         let all : l - left ≡ l = omega arith in
         let wide : x < 2 ^ l = subst (λ (k : ℕ). x < 2 ^ k) all (r .wide) in

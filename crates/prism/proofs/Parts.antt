@@ -18,39 +18,39 @@ use Rattle.triangle.specs.declared.TriangleAnswer.the-variants as triangle-answ
 use Rattle.triangle.specs.Elements as triangle
 use Rattle.triangle.proofs.Units as triangle-units
 use Rattle.prism.specs.declared.Prism.{Prism}
-use Rattle.prism.specs.Elements.{prismTo, triangleOf, lineOf, joined}
+use Rattle.prism.specs.Elements.{prismTo, plan, upright, product}
 
 -- ---- an answer that is known to be accepted
-pub triangle-is : (r : TriangleAnswer) (t f : Triangle) → r ≡ triangle-answer.Is t → triangle.elementOf r ≡ accepted f → t ≡ f
-triangle-is r t f made read = let both : accepted t ≡ accepted f = sym (ap triangle.elementOf made) ∙ read in cc
+pub triangle-is : (r : TriangleAnswer) (t f : Triangle) → r ≡ triangle-answer.Is t → triangle.triangleOf r ≡ accepted f → t ≡ f
+triangle-is r t f made read = let both : accepted t ≡ accepted f = sym (ap triangle.triangleOf made) ∙ read in cc
 
-pub line-is : (r : LineAnswer) (m f : Line) → r ≡ line-answer.Is m → line.elementOf r ≡ accepted f → m ≡ f
-line-is r m f made read = let both : accepted m ≡ accepted f = sym (ap line.elementOf made) ∙ read in cc
+pub line-is : (r : LineAnswer) (m f : Line) → r ≡ line-answer.Is m → line.lineOf r ≡ accepted f → m ≡ f
+line-is r m f made read = let both : accepted m ≡ accepted f = sym (ap line.lineOf made) ∙ read in cc
 
 never : {A E : Type 0} (n p : ℕ) (f : E) → refused n p ≡ accepted f → A
 never n p f h = absurd (let z : _≡_ {A = ℕ} 0 1 = cc in omega arith)
 
-pub triangle-never : {A : Type 0} (r : TriangleAnswer) (n p : ℕ) (f : Triangle) → r ≡ triangle-answer.Refused n p → triangle.elementOf r ≡ accepted f → A
-triangle-never r n p f made read = never n p f (sym (ap triangle.elementOf made) ∙ read)
+pub triangle-never : {A : Type 0} (r : TriangleAnswer) (n p : ℕ) (f : Triangle) → r ≡ triangle-answer.Refused n p → triangle.triangleOf r ≡ accepted f → A
+triangle-never r n p f made read = never n p f (sym (ap triangle.triangleOf made) ∙ read)
 
-pub line-never : {A : Type 0} (r : LineAnswer) (n p : ℕ) (f : Line) → r ≡ line-answer.Refused n p → line.elementOf r ≡ accepted f → A
-line-never r n p f made read = never n p f (sym (ap line.elementOf made) ∙ read)
+pub line-never : {A : Type 0} (r : LineAnswer) (n p : ℕ) (f : Line) → r ≡ line-answer.Refused n p → line.lineOf r ≡ accepted f → A
+line-never r n p f made read = never n p f (sym (ap line.lineOf made) ∙ read)
 
 module _ (L : ℕ) where
   -- ---- the neighbour: across a side, below and above
 
   -- ---- descendants, side by side
   descend-parts : (i k : ℕ) (e : Prism)
-      → descend (prismTo L) i k e ≡ joined (descend (triangleTo L) (i % 4) k (triangleOf e)) (descend (lineTo L) (i / 4) k (lineOf e))
+      → descend (prismTo L) i k e ≡ product (descend (triangleTo L) (i % 4) k (plan e)) (descend (lineTo L) (i / 4) k (upright e))
   unfolding descend prismTo triangleTo lineTo
   descend-parts i zero e = refl
   descend-parts i (suc k) e =
       let up = descend-parts i k e in
-      let t = descend (triangleTo L) (i % 4) k (triangleOf e) in
-      let m = descend (lineTo L) (i / 4) k (lineOf e) in
-      let level : t .level ≡ m .level = triangle-level k (triangleOf e) ∙ sym (line-level k (lineOf e)) in
-      ap (λ (f : Prism). joined (triangle.child L (triangleOf f) (i % 4)) (line.child L (lineOf f) (i / 4))) up
-      ∙ ap (λ (l : ℕ). joined (triangle.child L t (i % 4)) (line.child L (record { x = m .x; level = l }) (i / 4))) level
+      let t = descend (triangleTo L) (i % 4) k (plan e) in
+      let m = descend (lineTo L) (i / 4) k (upright e) in
+      let level : t .level ≡ m .level = triangle-level k (plan e) ∙ sym (line-level k (upright e)) in
+      ap (λ (f : Prism). product (triangle.child L (plan f) (i % 4)) (line.child L (upright f) (i / 4))) up
+      ∙ ap (λ (l : ℕ). product (triangle.child L t (i % 4)) (line.child L (record { x = m .x; level = l }) (i / 4))) level
     where
       triangle-level : (n : ℕ) (t : Triangle) → (descend (triangleTo L) (i % 4) n t) .level ≡ t .level + n
       triangle-level zero t = sym (add-zero (t .level))
@@ -60,7 +60,7 @@ module _ (L : ℕ) where
       line-level zero m = sym (add-zero (m .level))
       line-level (suc n) m = omega (arith, line-level n m)
 
-  pub last-parts : (e : Prism) (l : ℕ) → last (prismTo L) e l ≡ joined (last (triangleTo L) (triangleOf e) l) (last (lineTo L) (lineOf e) l)
+  pub last-parts : (e : Prism) (l : ℕ) → last (prismTo L) e l ≡ product (last (triangleTo L) (plan e) l) (last (lineTo L) (upright e) l)
   unfolding prismTo triangleTo lineTo
   last-parts e l = descend-parts 7 (l - e .level) e
 
@@ -69,4 +69,4 @@ module _ (L : ℕ) where
   unfolding prismTo triangleTo lineTo
   first-closed e l typed down =
       descend-parts 0 (l - e .level) e
-      ∙ ap₂ joined (triangle-units.first-closed L (triangleOf e) l typed down) (line-closed.first-closed L (lineOf e) l down)
+      ∙ ap₂ product (triangle-units.first-closed L (plan e) l typed down) (line-closed.first-closed L (upright e) l down)

@@ -6,10 +6,10 @@
 --   "children .. 8; faces .. 5; corners .. 6"
 --   Faults: 1 level above the highest, 2 anchor 2^21 or more, or no multiple of h, 3 type above 1, 4 outside the root
 --
---   triangleOf, lineOf   the two that a prism is the product of; joined puts them together again
+--   plan, upright   the two that a prism is the product of; product puts them together again
 --   prismTo L            prisms as a shape, highest level L
 --   prism                "highest level 21 for all three"
---   elementOf            the outcome that a PrismAnswer stands for
+--   prismOf            the outcome that a PrismAnswer stands for
 --   equalColumns         whether the five lent columns are equally long; Equal, that they are
 --   element i            entry i of them
 --   elements             all of them
@@ -32,14 +32,14 @@ use Rattle.prism.specs.declared.Prism.{Prism}
 use Rattle.prism.specs.declared.PrismAnswer.{PrismAnswer}
 use Rattle.prism.specs.declared.PrismAnswer.the-variants.{Is, Refused}
 
-abbrev pub triangleOf : Prism → Triangle
-triangleOf e = record { x = e .x; y = e .y; level = e .level; kind = e .kind }
+abbrev pub plan : Prism → Triangle
+plan e = record { x = e .x; y = e .y; level = e .level; kind = e .kind }
 
-abbrev pub lineOf : Prism → Line
-lineOf e = record { x = e .z; level = e .level }
+abbrev pub upright : Prism → Line
+upright e = record { x = e .z; level = e .level }
 
-abbrev pub joined : Triangle → Line → Prism
-joined t m = record { x = t .x; y = t .y; z = m .x; level = t .level; kind = t .kind }
+abbrev pub product : Triangle → Line → Prism
+product t m = record { x = t .x; y = t .y; z = m .x; level = t .level; kind = t .kind }
 
 module _ (L : ℕ) where
   abbrev pub fault : Prism → ℕ
@@ -50,19 +50,19 @@ module _ (L : ℕ) where
       (fault-when (not (triangle.insideRoot (e .kind) (e .x) (e .y))) 4 0)))
 
   abbrev pub child : Prism → ℕ → Prism
-  child e i = joined (triangle.child L (triangleOf e) (i % 4)) (line.child L (lineOf e) (i / 4))
+  child e i = product (triangle.child L (plan e) (i % 4)) (line.child L (upright e) (i / 4))
 
   abbrev pub parent : Prism → Prism
-  parent e = joined (triangle.parent L (triangleOf e)) (line.parent L (lineOf e))
+  parent e = product (triangle.parent L (plan e)) (line.parent L (upright e))
 
   abbrev pub number : Prism → ℕ
-  number e = 4 * line.number L (lineOf e) + triangle.number L (triangleOf e)
+  number e = 4 * line.number L (upright e) + triangle.number L (plan e)
 
   unfoldable pub neighbour : Prism → ℕ → Outcome Prism
   neighbour e i =
       cond (ltb i 3)
-      (mapped (λ (t : Triangle). joined t (lineOf e)) (triangle.neighbour L (triangleOf e) i))
-      (mapped (λ (m : Line). joined (triangleOf e) m) (line.neighbour L (lineOf e) (i - 3)))
+      (mapped (λ (t : Triangle). product t (upright e)) (triangle.neighbour L (plan e) i))
+      (mapped (λ (m : Line). product (plan e) m) (line.neighbour L (upright e) (i - 3)))
 
   unfoldable pub prismTo : Shape Prism
   prismTo =
@@ -86,9 +86,9 @@ module _ (L : ℕ) where
 abbrev pub prism : Shape Prism
 prism = prismTo 21
 
-abbrev pub elementOf : PrismAnswer → Outcome Prism
-elementOf (Is e) = accepted e
-elementOf (Refused number place) = refused number place
+abbrev pub prismOf : PrismAnswer → Outcome Prism
+prismOf (Is e) = accepted e
+prismOf (Refused number place) = refused number place
 
 abbrev pub equalColumns : List ℕ → List ℕ → List ℕ → List ℕ → List ℕ → Bool
 equalColumns levels xs ys zs kinds =

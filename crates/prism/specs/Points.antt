@@ -19,7 +19,7 @@ use Rattle.triangle.specs.Points.{Point}
 use Rattle.line.specs.Points as line
 use Rattle.triangle.specs.Points as triangle
 use Rattle.prism.specs.declared.Prism.{Prism}
-use Rattle.prism.specs.Elements.{triangleOf, lineOf}
+use Rattle.prism.specs.Elements.{plan, upright}
 
 pub record Corner : Type 0 where
   pub plan : Point
@@ -29,15 +29,15 @@ abbrev pub lifted : ℕ → Point → Corner
 lifted z p = record { plan = p; height = z }
 
 abbrev pub corner : ℕ → Prism → ℕ → Corner
-corner L e i = lifted (line.corner L (lineOf e) (i / 3)) (triangle.corner L (triangleOf e) (i % 3))
+corner L e i = lifted (line.corner L (upright e) (i / 3)) (triangle.corner L (plan e) (i % 3))
 
 abbrev pub facePoints : ℕ → Prism → ℕ → List Corner
 facePoints L e i =
     cond (ltb i 3)
-    (map (lifted (line.corner L (lineOf e) 0)) (triangle.facePoints L (triangleOf e) i)
-    ++ map (lifted (line.corner L (lineOf e) 1)) (triangle.facePoints L (triangleOf e) i))
-    (map (lifted (line.corner L (lineOf e) (i - 3)))
-    (triangle.corner L (triangleOf e) 0 ∷ triangle.corner L (triangleOf e) 1 ∷ triangle.corner L (triangleOf e) 2 ∷ []))
+    (map (lifted (line.corner L (upright e) 0)) (triangle.facePoints L (plan e) i)
+    ++ map (lifted (line.corner L (upright e) 1)) (triangle.facePoints L (plan e) i))
+    (map (lifted (line.corner L (upright e) (i - 3)))
+    (triangle.corner L (plan e) 0 ∷ triangle.corner L (plan e) 1 ∷ triangle.corner L (plan e) 2 ∷ []))
 
 abbrev pub faceAcross : ℕ → ℕ
 faceAcross i = cond (ltb i 3) (triangle.faceAcross i) (3 + line.faceAcross (i - 3))

@@ -1,13 +1,13 @@
 // Prisms: a triangle times a line. Each contract is one of the ten calls of `tree`, at this shape; `specs/Elements.antt`
 // says what a prism is.
+use paper::CompareAnswer;
 use paper::NumberAnswer;
-use paper::OrderAnswer;
 use paper::TruthAnswer;
 ghost use mathlib.Core.Path.{_≡_};
 ghost use Prim.Native.Nat.{_<_};
-ghost use Rattle.paper.specs.Readings.{valueOf, truthOf, orderOf};
+ghost use Rattle.paper.specs.Readings.{valueOf, truthOf, comparisonOf};
 ghost use Rattle.tree.specs.Calls;
-ghost use Rattle.prism.specs.Elements.{prism, elementOf, equalColumns, elements};
+ghost use Rattle.prism.specs.Elements.{prism, prismOf, equalColumns, elements};
 
 mod family;
 pub mod rows;
@@ -38,7 +38,7 @@ impl Prism {
 
     // The element of a level at a position. Refused: 1, 5.
     pub fn at(level: u8, position: u64) -> PrismAnswer
-        ensures { λ r. ⌜ elementOf r ≡ Calls.at prism level position ⌝ }
+        ensures { λ r. ⌜ prismOf r ≡ Calls.at prism level position ⌝ }
     {
         if 21 < level {
             return PrismAnswer::Refused(1, 0);
@@ -62,7 +62,7 @@ impl Prism {
 
     // The element that this one is a child of. Refused: 1, 2, 3, 4, 6.
     pub fn parent(self) -> PrismAnswer
-        ensures { λ r. ⌜ elementOf r ≡ Calls.parent prism self ⌝ }
+        ensures { λ r. ⌜ prismOf r ≡ Calls.parent prism self ⌝ }
     {
         let fault = self.fault();
         if fault != 0 {
@@ -76,7 +76,7 @@ impl Prism {
 
     // A child by its number. Refused: 1, 2, 3, 4, 7, 8.
     pub fn child(self, number: u8) -> PrismAnswer
-        ensures { λ r. ⌜ elementOf r ≡ Calls.child prism self number ⌝ }
+        ensures { λ r. ⌜ prismOf r ≡ Calls.child prism self number ⌝ }
     {
         let fault = self.fault();
         if fault != 0 {
@@ -93,7 +93,7 @@ impl Prism {
 
     // The next element of the level. Refused: 1, 2, 3, 4, 9.
     pub fn successor(self) -> PrismAnswer
-        ensures { λ r. ⌜ elementOf r ≡ Calls.successor prism self ⌝ }
+        ensures { λ r. ⌜ prismOf r ≡ Calls.successor prism self ⌝ }
     {
         let fault = self.fault();
         if fault != 0 {
@@ -109,7 +109,7 @@ impl Prism {
 
     // The first descendant at a level. Refused: 1, 2, 3, 4, then 1, 6 for the level.
     pub fn first_descendant(self, level: u8) -> PrismAnswer
-        ensures { λ r. ⌜ elementOf r ≡ Calls.first prism self level ⌝ }
+        ensures { λ r. ⌜ prismOf r ≡ Calls.first prism self level ⌝ }
     {
         let fault = self.fault();
         if fault != 0 {
@@ -132,7 +132,7 @@ impl Prism {
 
     // The last descendant at a level. Refused: 1, 2, 3, 4, then 1, 6 for the level.
     pub fn last_descendant(self, level: u8) -> PrismAnswer
-        ensures { λ r. ⌜ elementOf r ≡ Calls.last prism self level ⌝ }
+        ensures { λ r. ⌜ prismOf r ≡ Calls.last prism self level ⌝ }
     {
         let fault = self.fault();
         if fault != 0 {
@@ -149,7 +149,7 @@ impl Prism {
 
     // The element across a face. Refused: 1, 2, 3, 4, 8, 10.
     pub fn neighbour(self, face: u8) -> PrismAnswer
-        ensures { λ r. ⌜ elementOf r ≡ Calls.neighbour prism self face ⌝ }
+        ensures { λ r. ⌜ prismOf r ≡ Calls.neighbour prism self face ⌝ }
     {
         let fault = self.fault();
         if fault != 0 {
@@ -162,16 +162,16 @@ impl Prism {
     }
 
     // The order of two elements. Refused: 1, 2, 3, 4, at place 0 or 1.
-    pub fn compare(self, other: Prism) -> OrderAnswer
-        ensures { λ r. ⌜ orderOf r ≡ Calls.order prism self other ⌝ }
+    pub fn compare(self, other: Prism) -> CompareAnswer
+        ensures { λ r. ⌜ comparisonOf r ≡ Calls.order prism self other ⌝ }
     {
         let fault = self.fault();
         if fault != 0 {
-            return OrderAnswer::Refused(fault, 0);
+            return CompareAnswer::Refused(fault, 0);
         }
         let second = other.fault();
         if second != 0 {
-            return OrderAnswer::Refused(second, 1);
+            return CompareAnswer::Refused(second, 1);
         }
         tree::order(self.start(), self.level, other.start(), other.level)
     }

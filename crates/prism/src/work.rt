@@ -10,7 +10,7 @@ use triangle::TriangleAnswer;
 ghost use mathlib.Core.Path.{_≡_};
 ghost use Prim.Native.Nat.{_^_, _≤_, _<_};
 ghost use Rattle.tree.specs.Words;
-ghost use Rattle.prism.specs.Elements.{prism, elementOf, triangleOf, lineOf, joined};
+ghost use Rattle.prism.specs.Elements.{prism, prismOf, plan, upright, product};
 
 // No check fails.
 const SOUND: u8 = 0;
@@ -61,7 +61,7 @@ impl Prism {
 
     // The two that a prism is the product of.
     fn plan(self) -> Triangle
-        ensures { λ r. ⌜ r ≡ triangleOf self ⌝ }
+        ensures { λ r. ⌜ r ≡ plan self ⌝ }
     {
         Triangle {
             x: self.x,
@@ -72,7 +72,7 @@ impl Prism {
     }
 
     fn upright(self) -> Line
-        ensures { λ r. ⌜ r ≡ lineOf self ⌝ }
+        ensures { λ r. ⌜ r ≡ upright self ⌝ }
     {
         Line {
             x: self.z,
@@ -121,7 +121,7 @@ impl Prism {
 
     pub(crate) fn across(self, face: u8) -> PrismAnswer
         requires { ⌜ (prism .fault self ≡ 0) × (face < 5) ⌝ }
-        ensures { λ r. ⌜ elementOf r ≡ prism .neighbour self face ⌝ }
+        ensures { λ r. ⌜ prismOf r ≡ prism .neighbour self face ⌝ }
     {
         let h = tree::side(self.level);
         let s = rows::side_row(self.kind, face);
@@ -186,7 +186,7 @@ impl Prism {
 
 // A triangle times a line of its level.
 fn product(t: Triangle, m: Line) -> Prism
-    ensures { λ r. ⌜ r ≡ joined t m ⌝ }
+    ensures { λ r. ⌜ r ≡ product t m ⌝ }
 {
     Prism {
         x: t.x,
@@ -200,7 +200,7 @@ fn product(t: Triangle, m: Line) -> Prism
 // The element at a position that the level has: down from the root, one digit a level, in units of the side.
 pub(crate) fn placed(level: u8, position: u64) -> Prism
     requires { ⌜ (level ≤ 21) × (position < 8 ^ level) ⌝ }
-    ensures { λ r. ⌜ r ≡ Words.at prism level position ⌝ }
+    ensures { λ r. ⌜ r ≡ Words.elementAt prism level position ⌝ }
 {
     let mut x = 0u32;
     let mut y = 0u32;

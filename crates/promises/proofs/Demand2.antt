@@ -25,9 +25,9 @@ use Rattle.triangle.specs.declared.TriangleAnswer.{TriangleAnswer}
 use Rattle.prism.specs.declared.PrismAnswer.{PrismAnswer}
 use Rattle.paper.specs.declared.NumberAnswer.{NumberAnswer}
 use Rattle.paper.specs.declared.TruthAnswer.{TruthAnswer}
-use Rattle.paper.specs.declared.OrderAnswer.{OrderAnswer}
+use Rattle.paper.specs.declared.CompareAnswer.{CompareAnswer}
 use Rattle.paper.specs.declared.PassAnswer.{PassAnswer}
-use Rattle.paper.specs.Readings.{valueOf, truthOf, orderOf, passOf}
+use Rattle.paper.specs.Readings.{valueOf, truthOf, comparisonOf, passOf}
 use Rattle.leaves.proofs.Ancestors.{tied}
 use Rattle.balance.proofs.Exactly.{exact}
 use Rattle.leaves.proofs.Promised as leaves-laws
@@ -46,7 +46,7 @@ use Rattle.triangle.specs.declared.TriangleAnswer.the-variants as triangle-answ
 use Rattle.prism.specs.declared.PrismAnswer.the-variants as prism-answer
 use Rattle.paper.specs.declared.NumberAnswer.the-variants as number-answer
 use Rattle.paper.specs.declared.TruthAnswer.the-variants as truth-answer
-use Rattle.paper.specs.declared.OrderAnswer.the-variants as order-answer
+use Rattle.paper.specs.declared.CompareAnswer.the-variants as order-answer
 use Rattle.paper.specs.declared.PassAnswer.the-variants as pass-answer
 use Rattle.gridfile.specs.Numbers.{Read}
 use Rattle.gridfile.specs.Readings.{Size, readOf, gridOf}
@@ -89,24 +89,24 @@ abbrev answer : {A B : Type 0} → (B → A) → (ℕ → ℕ → A) → Outcome
 answer is refuse (accepted b) = is b
 answer is refuse (refused number place) = refuse number place
 
-line-elements : Determined lines.elementOf
-line-elements = determined-by lines.elementOf (answer line-answer.Is line-answer.Refused) undo
+line-elements : Determined lines.lineOf
+line-elements = determined-by lines.lineOf (answer line-answer.Is line-answer.Refused) undo
   where
-    undo : (r : LineAnswer) → answer line-answer.Is line-answer.Refused (lines.elementOf r) ≡ r
+    undo : (r : LineAnswer) → answer line-answer.Is line-answer.Refused (lines.lineOf r) ≡ r
     undo (line-answer.Is e) = refl
     undo (line-answer.Refused n p) = refl
 
-triangle-elements : Determined triangles.elementOf
-triangle-elements = determined-by triangles.elementOf (answer triangle-answer.Is triangle-answer.Refused) undo
+triangle-elements : Determined triangles.triangleOf
+triangle-elements = determined-by triangles.triangleOf (answer triangle-answer.Is triangle-answer.Refused) undo
   where
-    undo : (r : TriangleAnswer) → answer triangle-answer.Is triangle-answer.Refused (triangles.elementOf r) ≡ r
+    undo : (r : TriangleAnswer) → answer triangle-answer.Is triangle-answer.Refused (triangles.triangleOf r) ≡ r
     undo (triangle-answer.Is e) = refl
     undo (triangle-answer.Refused n p) = refl
 
-prism-elements : Determined prisms.elementOf
-prism-elements = determined-by prisms.elementOf (answer prism-answer.Is prism-answer.Refused) undo
+prism-elements : Determined prisms.prismOf
+prism-elements = determined-by prisms.prismOf (answer prism-answer.Is prism-answer.Refused) undo
   where
-    undo : (r : PrismAnswer) → answer prism-answer.Is prism-answer.Refused (prisms.elementOf r) ≡ r
+    undo : (r : PrismAnswer) → answer prism-answer.Is prism-answer.Refused (prisms.prismOf r) ≡ r
     undo (prism-answer.Is e) = refl
     undo (prism-answer.Refused n p) = refl
 
@@ -161,15 +161,15 @@ point-answers = determined-by pointOf (answer point-answer.Is point-answer.Refus
     undo (point-answer.Is p) = refl
     undo (point-answer.Refused n p) = refl
 
-abbrev ordered : Order → OrderAnswer
+abbrev ordered : Order → CompareAnswer
 ordered less = order-answer.Less
 ordered same = order-answer.Same
 ordered greater = order-answer.Greater
 
-order-answers : Determined orderOf
-order-answers = determined-by orderOf (answer ordered order-answer.Refused) undo
+order-answers : Determined comparisonOf
+order-answers = determined-by comparisonOf (answer ordered order-answer.Refused) undo
   where
-    undo : (r : OrderAnswer) → answer ordered order-answer.Refused (orderOf r) ≡ r
+    undo : (r : CompareAnswer) → answer ordered order-answer.Refused (comparisonOf r) ≡ r
     undo order-answer.Less = refl
     undo order-answer.Same = refl
     undo order-answer.Greater = refl

@@ -12,7 +12,7 @@ use Rattle.triangle.specs.Elements.{triangleTo, triangle}
 use Rattle.triangle.specs.declared.rows.Step.{Step}
 use Rattle.triangle.specs.Rows.{faceRow}
 use Rattle.prism.specs.declared.Prism.{Prism}
-use Rattle.prism.specs.Elements.{prismTo, prism, joined, lineOf, triangleOf}
+use Rattle.prism.specs.Elements.{prismTo, prism, product, upright, plan}
 use Rattle.line.specs.Elements as lines
 use Rattle.triangle.specs.Elements as triangles
 use Rattle.prism.specs.Elements as prisms
@@ -54,8 +54,8 @@ prism-across : (L : ℕ) (e : Prism) (i : ℕ) → Numbered (prisms.neighbour L 
 unfolding prisms.neighbour
 prism-across L e i =
     either (ltb i 3) _ _
-    (mapped-said (λ (t : Triangle). joined t (lineOf e)) _ (step-across L (triangleOf e) (faceRow (triangleOf e .kind) i)))
-    (mapped-said (λ (m : Line). joined (triangleOf e) m) _ (line-across L (lineOf e) (i - 3)))
+    (mapped-said (λ (t : Triangle). product t (upright e)) _ (step-across L (plan e) (faceRow (plan e .kind) i)))
+    (mapped-said (λ (m : Line). product (plan e) m) _ (line-across L (upright e) (i - 3)))
 
 prism-out : (e : Prism) (i : ℕ) → Numbered (prism .neighbour e i)
 unfolding prismTo

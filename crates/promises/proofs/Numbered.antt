@@ -10,7 +10,7 @@ use borrow.Author.Tests.{not-true, eqb-false, leb-true}
 use Rattle.paper.specs.Outcome.{Outcome, accepted, refused, passed, refuse-when-at, fault-when, mapped, scan, rows}
 use Rattle.paper.proofs.Scan.{never}
 use Rattle.tree.specs.Shape.{Shape}
-use Rattle.leaves.specs.Leaves.{Leaf, leaves, Place, place, endOf}
+use Rattle.leaves.specs.Leaves.{Leaf, leaves, Spot, spotAt, endOf}
 use Rattle.leaves.specs.Calls.{limit, outOfRange, equalColumns, leafFault, walked, listed}
 use Rattle.balance.specs.Balance.{balanced}
 use Rattle.adaption.specs.Adaption.{mark, adapted}
@@ -38,7 +38,7 @@ pub fine : {A : Type 0} (a : A) → Numbered (accepted a)
 fine a = record { said = λ number at e. never a number at (sym e) }
 
 refusal : {A : Type 0} (number at : ℕ) → Said number → Numbered {A = A} (refused number at)
-refusal {A} number at known = record { said = λ other place e. subst Said (ap numberOf e) known }
+refusal {A} number at known = record { said = λ other spotAt e. subst Said (ap numberOf e) known }
   where
     numberOf : Outcome A → ℕ
     numberOf (accepted a) = 0
@@ -94,7 +94,7 @@ module _ {E : Type 0} (S : Shape E) (few : (e : E) → S .fault e ≤ 24) (acros
   pub on-elements : OnElements S
   on-elements =
       record {
-        at = λ l p. when (ltb (S .highest) l) 1 0 refl (when (leb (S .children ^ l) p) 5 0 refl (fine (Words.at S l p)));
+        at = λ l p. when (ltb (S .highest) l) 1 0 refl (when (leb (S .children ^ l) p) 5 0 refl (fine (Words.elementAt S l p)));
         position = λ e. fault-said (S .fault e) 0 _ (few e) (fine (Words.position S e));
         parent = λ e. fault-said (S .fault e) 0 _ (few e) (when (eqb (S .level e) 0) 6 0 refl (fine (S .parent e)));
         child = λ e i. fault-said (S .fault e) 0 _ (few e) (when (leb (S .highest) (S .level e)) 7 0 refl (when (leb (S .children) i) 8 0 refl (fine (S .child e i))));
@@ -108,11 +108,11 @@ module _ {E : Type 0} (S : Shape E) (few : (e : E) → S .fault e ≤ 24) (acros
 
 -- ---- lists
 module _ (n L : ℕ) where
-  leaf-few : (K : ℕ) (c : Place) (v : Leaf) → leafFault n L K c v ≤ 24
+  leaf-few : (K : ℕ) (c : Spot) (v : Leaf) → leafFault n L K c v ≤ 24
   leaf-few K c v =
       fault-few (ltb L (v .level)) 1 _ (omega arith) (fault-few (leb (n ^ v .level) (v .position)) 5 _ (omega arith) (fault-few (not (lists.starts n L K c v)) 12 0 (omega arith) (omega arith)))
 
-  walked-said : {A : Type 0} (K i : ℕ) (c : Place) (vs : List Leaf) (rest : Outcome A) → Numbered rest → Numbered (walked n L K i c vs rest)
+  walked-said : {A : Type 0} (K i : ℕ) (c : Spot) (vs : List Leaf) (rest : Outcome A) → Numbered rest → Numbered (walked n L K i c vs rest)
   unfolding walked
   walked-said K i c [] rest known = when (not (eqb (c .root) K && eqb (c .cell) 0)) 12 i refl known
   walked-said K i c (v ∷ vs) rest known =
@@ -123,7 +123,7 @@ module _ (n L : ℕ) where
       when (outOfRange K || not inRange) 17 0 refl
       (when (not (equalColumns rs ls ps && fitting)) 11 0 refl
       (when (eqb (length rs) 0 || ltb limit (length rs)) 11 0 refl
-      (walked-said K 0 (place 0 0) (leaves rs ls ps) rest known)))
+      (walked-said K 0 (spotAt 0 0) (leaves rs ls ps) rest known)))
 
 -- ---- files
 number-said : (bs : List ℕ) (i : ℕ) → Numbered (numberAt bs i)
@@ -145,7 +145,7 @@ head-said bs =
     when (eqb (r .value) 0 || ltb limit (r .value)) 21 (k .next) refl (fine (head (k .value) (r .value) (r .next)))))))
 
 module _ (n L : ℕ) (bs : List ℕ) (K : ℕ) where
-  run-said : (i before : ℕ) (c : Place) (N : ℕ) → Numbered (runAt n L bs K i before c N)
+  run-said : (i before : ℕ) (c : Spot) (N : ℕ) → Numbered (runAt n L bs K i before c N)
   run-said i before c N =
       then-said (numberAt bs i) (afterLevel n L bs K i before c N) (number-said bs i) (λ l.
       when (ltb L (l .value)) 1 i refl (when (eqb before (l .value)) 21 i refl
@@ -153,7 +153,7 @@ module _ (n L : ℕ) (bs : List ℕ) (K : ℕ) where
       when (eqb (k .value) 0) 21 (l .next) refl (when (ltb limit (N + k .value)) 15 (l .next) refl
       (when (not (fits n L K c (l .value) (k .value))) 12 i refl (fine (runRead (l .value) (k .value) (k .next)))))))))
 
-  runs-said : (R i before : ℕ) (c : Place) (N : ℕ) → Numbered (runsAt n L bs K R i before c N)
+  runs-said : (R i before : ℕ) (c : Spot) (N : ℕ) → Numbered (runsAt n L bs K R i before c N)
   unfolding runsAt
   runs-said zero i before c N = when (not (eqb (c .root) K && eqb (c .cell) 0)) 12 i refl (when (ltb i (length bs)) 22 i refl (fine []))
   runs-said (suc R) i before c N =
@@ -164,8 +164,8 @@ module _ (n L : ℕ) (bs : List ℕ) (K : ℕ) where
 grid-said : (n L : ℕ) (bs : List ℕ) → Numbered (gridAt n L bs)
 grid-said n L bs =
     then-said (headAt bs) (headed n L bs) (head-said bs) (λ h.
-    mapped-said (λ (vs : List Leaf). record { roots = h .roots; leaves = vs }) (runsAt n L bs (h .roots) (h .runs) (h .next) (suc L) (place 0 0) 0)
-    (runs-said n L bs (h .roots) (h .runs) (h .next) (suc L) (place 0 0) 0))
+    mapped-said (λ (vs : List Leaf). record { roots = h .roots; leaves = vs }) (runsAt n L bs (h .roots) (h .runs) (h .next) (suc L) (spotAt 0 0) 0)
+    (runs-said n L bs (h .roots) (h .runs) (h .next) (suc L) (spotAt 0 0) 0))
 
 -- ---- the calls' last tests
 room-said : (room needed : ℕ) → Numbered (files.sized needed room)
@@ -219,7 +219,7 @@ field-few fs i =
 pub order-said : (input : List ℕ) → Numbered (orders.decided input)
 order-said input =
     in-turn (orders.fault (fields input)) (field-few (fields input)) 1 (rows (λ i. i) 1 7) _
-    (when (not (eqb (length (fields input)) 7 && ended input)) 23 8 refl (fine (orders.orderOf (fields input))))
+    (when (not (eqb (length (fields input)) 7 && ended input)) 23 8 refl (fine (orders.comparisonOf (fields input))))
 
 pub printed-said : (input : List ℕ) (room : ℕ) → Numbered (answered input room)
 printed-said input room = when (ltb room (length (output input))) 14 (length (output input)) refl (fine (length (output input)))

@@ -1,6 +1,6 @@
 -- The starred cases hold: each is computed. Assumes nothing.
 use mathlib.Core.Path.{refl}
-use Rattle.tree.specs.Words.{at, positionAt}
+use Rattle.tree.specs.Words.{elementAt, positionAt}
 use Rattle.triangle.specs.Rows.{parentKind, numberOf}
 use Rattle.prism.specs.Elements.{prismTo, neighbour}
 use Rattle.adaption.specs.Adaption.{every, joined}
@@ -11,5 +11,5 @@ use Rattle.gridfile.specs.Reading.{fits, leavesOf, after, runsAt}
 use Rattle.promises.specs.Starred.{AllHold, starred}
 
 pub starred-hold : AllHold starred
-unfolding starred at positionAt prismTo neighbour parentKind numberOf every joined total largest walked runsOf runBytes fits leavesOf after runsAt
+unfolding starred elementAt positionAt prismTo neighbour parentKind numberOf every joined total largest walked runsOf runBytes fits leavesOf after runsAt
 starred-hold = (refl, (refl, (refl, (refl, (refl, (refl, (refl, (refl, (refl, (refl, (refl, (refl, (refl, (refl, (refl, (refl, (refl, (refl, (refl, (refl, (refl, (refl, (refl, (refl, (refl, (refl, (refl, (refl, (refl, (refl, tt))))))))))))))))))))))))))))))

@@ -15,7 +15,7 @@
 use mathlib.Core.Path.{_≡_}
 use mathlib.Core.List.{List}
 use Prim.Native.Nat.{ℕ}
-use Rattle.paper.specs.Readings.{valueOf, truthOf, orderOf, passOf}
+use Rattle.paper.specs.Readings.{valueOf, truthOf, comparisonOf, passOf}
 use Rattle.tree.specs.Shape.{Shape}
 use Rattle.tree.specs.Laws.{Lawful, RoundTrips, Positions, TotalOrder, Families, Faces}
 use Rattle.triangle.specs.Points.{Bey}
@@ -51,12 +51,12 @@ abbrev pub Determined : {A B : Type 0} → (A → B) → Type 0
 Determined {A} f = (r s : A) → f r ≡ f s → r ≡ s
 
 pub record Answers : Type 0 where
-  pub line-elements : Determined lines.elementOf
-  pub triangle-elements : Determined triangles.elementOf
-  pub prism-elements : Determined prisms.elementOf
+  pub line-elements : Determined lines.lineOf
+  pub triangle-elements : Determined triangles.triangleOf
+  pub prism-elements : Determined prisms.prismOf
   pub numbers : Determined valueOf
   pub truths : Determined truthOf
-  pub orders : Determined orderOf
+  pub orders : Determined comparisonOf
   pub passes : Determined passOf
   pub grids : Determined gridOf
   pub numbers-read : Determined readOf

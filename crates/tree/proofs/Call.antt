@@ -30,7 +30,7 @@ module _ {E : Type 0} (S : Shape E) where
     pub at-refused-5 : l ≤ S .highest → S .children ^ l ≤ p → Calls.at S l p ≡ refused 5 0
     at-refused-5 shallow beyond = simp (le-ltb (S .highest) l shallow, le-leb (S .children ^ l) p beyond)
 
-    pub at-accepted : l ≤ S .highest → p < S .children ^ l → Calls.at S l p ≡ accepted (Words.at S l p)
+    pub at-accepted : l ≤ S .highest → p < S .children ^ l → Calls.at S l p ≡ accepted (Words.elementAt S l p)
     at-accepted shallow below = simp (le-ltb (S .highest) l shallow, lt-leb (S .children ^ l) p below)
 
   module _ (e : E) (sound : Sound S e) where

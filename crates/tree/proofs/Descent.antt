@@ -6,7 +6,7 @@ use native.Mathlib.Nat.{add-sub-of-le, pow-zero, pow-suc, mul-one, mul-comm, mul
 use native.Mathlib.Omega.{arith}
 use Rattle.tree.specs.Shape.{Shape}
 use Rattle.tree.specs.Words.{positionAt, position, successor, descend, first, last}
-use Rattle.tree.specs.Laws.{Sound, Lawful, Stands, Positions}
+use Rattle.tree.specs.Laws.{Sound, Lawful, OfLevel, Positions}
 use Rattle.tree.proofs.Digits.{digit-div}
 use Rattle.tree.proofs.RoundTrip.{position-at}
 
@@ -89,7 +89,7 @@ module _ {E : Type 0} (S : Shape E) (W : Lawful S) where
       → position S (last S e l) ≡ (position S e + 1) * S .children ^ (l - S .level e) - 1
   of-last e l sound down room = omega (arith, position-lasts (l - S .level e) e sound (omega arith))
 
-  pub descend-stands : (i : ℕ) (e : E) (l : ℕ) → i < S .children → Sound S e → S .level e ≤ l → l ≤ S .highest → Stands S (descend S i (l - S .level e) e) l
+  pub descend-stands : (i : ℕ) (e : E) (l : ℕ) → i < S .children → Sound S e → S .level e ≤ l → l ≤ S .highest → OfLevel S (descend S i (l - S .level e) e) l
   descend-stands i e l small sound down room =
       record {
         sound = descend-sound i (l - S .level e) e sound small (omega arith);

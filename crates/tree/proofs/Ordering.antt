@@ -8,7 +8,7 @@ use native.Mathlib.Omega.{arith}
 use borrow.Author.Tests.{lt-ltb, le-ltb}
 use Rattle.paper.specs.Outcome.{Order, less, same, greater}
 use Rattle.tree.specs.Shape.{Shape}
-use Rattle.tree.specs.Words.{compared, position, first, order, at}
+use Rattle.tree.specs.Words.{compared, position, first, order, elementAt}
 use Rattle.tree.specs.Laws.{Sound, Lawful, TotalOrder}
 use Rattle.tree.proofs.Digits.{power-pos}
 use Rattle.tree.proofs.RoundTrip.{at-position}
@@ -121,7 +121,7 @@ module _ {E : Type 0} (S : Shape E) (W : Lawful S) where
       sym at-e ∙ p ∙ at-f ∙ ap (λ (m : ℕ). position S f * S .children ^ (L - m)) (sym l) in
       let equal : position S e ≡ position S f =
       eq-of-mul-eq-mul-right k (power-pos (S .children) (L - S .level e) (omega (arith, W .several))) (position S e) (position S f) scaled in
-      sym (at-position S W e se) ∙ ap₂ (at S) l equal ∙ at-position S W f sf
+      sym (at-position S W e se) ∙ ap₂ (elementAt S) l equal ∙ at-position S W f sf
 
   -- where an element stands: its first descendant, then its level
   abbrev place : E → ℕ

@@ -7,7 +7,7 @@ use native.Mathlib.Numerals.{add-one}
 use native.Mathlib.Omega.{arith}
 use lib.Pow.{shl-exact, shr-shr, pow-add, pow-mono, pow-pos}
 use Rattle.tree.specs.Shape.{Shape}
-use Rattle.tree.specs.Words.{at, positionAt, position, first}
+use Rattle.tree.specs.Words.{elementAt, positionAt, position, first}
 use Rattle.tree.specs.Laws.{Sound, Lawful}
 use Rattle.tree.proofs.Digits.{power-bits}
 use Rattle.tree.proofs.RoundTrip.{position-lt}
@@ -15,20 +15,20 @@ use Rattle.tree.proofs.Descent.{of-first}
 
 module _ {E : Type 0} (S : Shape E) (b : ℕ) (binary : S .children ≡ 2 ^ b) where
   -- ---- down: with one level fewer left, the digit below is appended
-  pub at-start : (p k : ℕ) → at S 0 (p / 2 ^ (b * k)) ≡ S .root
-  unfolding at
+  pub at-start : (p k : ℕ) → elementAt S 0 (p / 2 ^ (b * k)) ≡ S .root
+  unfolding elementAt
   at-start p k = refl
 
-  pub at-walk : (p k left : ℕ) → at S (suc k) (p / 2 ^ (b * left)) ≡ S .child (at S k (p / 2 ^ (b * suc left))) (p / 2 ^ (b * left) % 2 ^ b)
-  unfolding at
+  pub at-walk : (p k left : ℕ) → elementAt S (suc k) (p / 2 ^ (b * left)) ≡ S .child (elementAt S k (p / 2 ^ (b * suc left))) (p / 2 ^ (b * left) % 2 ^ b)
+  unfolding elementAt
   at-walk p k left =
       let q = p / 2 ^ (b * left) in
       let next : q / 2 ^ b ≡ p / 2 ^ (b * suc left) =
       shr-shr p (b * left) b ∙ ap (λ (m : ℕ). p / 2 ^ m) (sym (mul-suc b left)) in
-      ap₂ (λ (m n : ℕ). S .child (at S k (q / m)) (q % n)) binary binary ∙ ap (λ (m : ℕ). S .child (at S k m) (q % 2 ^ b)) next
+      ap₂ (λ (m n : ℕ). S .child (elementAt S k (q / m)) (q % n)) binary binary ∙ ap (λ (m : ℕ). S .child (elementAt S k m) (q % 2 ^ b)) next
 
-  pub at-end : (p l : ℕ) → at S l (p / 2 ^ (b * 0)) ≡ at S l p
-  at-end p l = ap (at S l) (ap (λ (m : ℕ). p / 2 ^ m) (mul-zero b) ∙ div-one p)
+  pub at-end : (p l : ℕ) → elementAt S l (p / 2 ^ (b * 0)) ≡ elementAt S l p
+  at-end p l = ap (elementAt S l) (ap (λ (m : ℕ). p / 2 ^ m) (mul-zero b) ∙ div-one p)
 
   -- ---- up: the digits passed and those still above
   pub position-start : (l : ℕ) (e : E) → positionAt S l e ≡ 0 + 2 ^ (b * 0) * positionAt S l e
@@ -68,26 +68,26 @@ sum-below b sum d i low small =
 -- ---- the same as the loops meet it
 module _ {E : Type 0} (S : Shape E) (b : ℕ) (binary : S .children ≡ 2 ^ b) (l : ℕ) where
   -- down, with `left` levels to go
-  pub reached-start : (p : ℕ) → at S (l - l) (p / 2 ^ (b * l)) ≡ S .root
+  pub reached-start : (p : ℕ) → elementAt S (l - l) (p / 2 ^ (b * l)) ≡ S .root
   reached-start p =
       let none : l - l ≡ 0 = omega arith in
-      ap (λ (k : ℕ). at S k (p / 2 ^ (b * l))) none ∙ at-start S b binary p l
+      ap (λ (k : ℕ). elementAt S k (p / 2 ^ (b * l))) none ∙ at-start S b binary p l
 
-  pub reached-step : (p left : ℕ) (e : E) → 0 < left → left ≤ l → at S (l - left) (p / 2 ^ (b * left)) ≡ e
-      → at S (l - (left - 1)) (p / 2 ^ (b * (left - 1))) ≡ S .child e (p / 2 ^ (b * (left - 1)) % 2 ^ b)
+  pub reached-step : (p left : ℕ) (e : E) → 0 < left → left ≤ l → elementAt S (l - left) (p / 2 ^ (b * left)) ≡ e
+      → elementAt S (l - (left - 1)) (p / 2 ^ (b * (left - 1))) ≡ S .child e (p / 2 ^ (b * (left - 1)) % 2 ^ b)
   reached-step p left e some fewer here =
       let more : l - (left - 1) ≡ suc (l - left) = omega arith in
       let again : suc (left - 1) ≡ left = omega arith in
-      ap (λ (k : ℕ). at S k (p / 2 ^ (b * (left - 1)))) more
+      ap (λ (k : ℕ). elementAt S k (p / 2 ^ (b * (left - 1)))) more
       ∙ at-walk S b binary p (l - left) (left - 1)
-      ∙ ap (λ (k : ℕ). S .child (at S (l - left) (p / 2 ^ (b * k))) (p / 2 ^ (b * (left - 1)) % 2 ^ b)) again
+      ∙ ap (λ (k : ℕ). S .child (elementAt S (l - left) (p / 2 ^ (b * k))) (p / 2 ^ (b * (left - 1)) % 2 ^ b)) again
       ∙ ap (λ (f : E). S .child f (p / 2 ^ (b * (left - 1)) % 2 ^ b)) here
 
-  pub reached-end : (p left : ℕ) (e : E) → left ≤ 0 → at S (l - left) (p / 2 ^ (b * left)) ≡ e → at S l p ≡ e
+  pub reached-end : (p left : ℕ) (e : E) → left ≤ 0 → elementAt S (l - left) (p / 2 ^ (b * left)) ≡ e → elementAt S l p ≡ e
   reached-end p left e done here =
       let none : 0 ≡ left = omega arith in
       let all : l ≡ l - left = omega arith in
-      sym (at-end S b binary p l) ∙ ap₂ (λ (k m : ℕ). at S k (p / 2 ^ (b * m))) all none ∙ here
+      sym (at-end S b binary p l) ∙ ap₂ (λ (k m : ℕ). elementAt S k (p / 2 ^ (b * m))) all none ∙ here
 
   -- up, with i levels passed and their digits summed; P is the position looked for
   pub climbed-start : (e : E) → positionAt S l e ≡ 0 + 2 ^ (b * 0) * positionAt S (l - 0) e

@@ -24,7 +24,7 @@ module _ {E : Type 0} (S : Shape E) where
   at l p =
       refuse-when (ltb (S .highest) l) 1
       (refuse-when (leb (S .children ^ l) p) 5
-      (accepted (Words.at S l p)))
+      (accepted (Words.elementAt S l p)))
 
   abbrev pub position : E → Outcome ℕ
   position e = checked e (accepted (Words.position S e))

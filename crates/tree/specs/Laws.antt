@@ -20,7 +20,7 @@ use mathlib.Core.List.{List, List·Memᴰ}
 use Prim.Native.Nat.{ℕ, suc, _+_, _-_, _*_, _/_, _^_, _≤_, _<_}
 use Rattle.paper.specs.Outcome.{accepted, refused, less, same, greater, rows}
 use Rattle.tree.specs.Shape.{Shape}
-use Rattle.tree.specs.Words.{at, position, successor, first, last, family, order}
+use Rattle.tree.specs.Words.{elementAt, position, successor, first, last, family, order}
 
 module _ {E : Type 0} (S : Shape E) where
   abbrev pub Sound : E → Type 0
@@ -47,20 +47,20 @@ module _ {E : Type 0} (S : Shape E) where
     pub same-eq : (e f : E) → S .same e f ≡ true → e ≡ f
 
   pub record RoundTrips : Type 0 where
-    pub at-sound : (l p : ℕ) → l ≤ S .highest → p < S .children ^ l → Sound (at S l p)
-    pub at-level : (l p : ℕ) → S .level (at S l p) ≡ l
-    pub position-at : (l p : ℕ) → l ≤ S .highest → p < S .children ^ l → position S (at S l p) ≡ p
+    pub at-sound : (l p : ℕ) → l ≤ S .highest → p < S .children ^ l → Sound (elementAt S l p)
+    pub at-level : (l p : ℕ) → S .level (elementAt S l p) ≡ l
+    pub position-at : (l p : ℕ) → l ≤ S .highest → p < S .children ^ l → position S (elementAt S l p) ≡ p
     pub position-lt : (e : E) → Sound e → position S e < S .children ^ S .level e
-    pub at-position : (e : E) → Sound e → at S (S .level e) (position S e) ≡ e
+    pub at-position : (e : E) → Sound e → elementAt S (S .level e) (position S e) ≡ e
 
   -- f is a valid element of level l
-  pub record Stands (f : E) (l : ℕ) : Type 0 where
+  pub record OfLevel (f : E) (l : ℕ) : Type 0 where
     pub sound : Sound f
     pub level : S .level f ≡ l
 
   pub record Positions : Type 0 where
-    pub first-stands : (e : E) (l : ℕ) → Sound e → S .level e ≤ l → l ≤ S .highest → Stands (first S e l) l
-    pub last-stands : (e : E) (l : ℕ) → Sound e → S .level e ≤ l → l ≤ S .highest → Stands (last S e l) l
+    pub first-stands : (e : E) (l : ℕ) → Sound e → S .level e ≤ l → l ≤ S .highest → OfLevel (first S e l) l
+    pub last-stands : (e : E) (l : ℕ) → Sound e → S .level e ≤ l → l ≤ S .highest → OfLevel (last S e l) l
     pub of-parent : (e : E) → Sound e → 0 < S .level e → position S (S .parent e) ≡ position S e / S .children
     pub of-child : (e : E) (i : ℕ) → Sound e → S .level e < S .highest → i < S .children
         → position S (S .child e i) ≡ S .children * position S e + i

@@ -1,6 +1,6 @@
 -- Document 01, "Elements": positions, and the words that rest on them, over any shape. Definitions only.
 --
---   at l p            the element of level l at position p: "the base-8 number of the child numbers from the root down;
+--   elementAt l p     the element of level l at position p: "the base-8 number of the child numbers from the root down;
 --                     base 4 and base 2 for the other shapes"
 --   position e        the position of e
 --   successor e       "position plus one, same level"
@@ -28,9 +28,9 @@ abbrev pub compared : ℕ → ℕ → Order → Order
 compared a b rest = pick (ltb a b) (ltb b a) rest
 
 module _ {E : Type 0} (S : Shape E) where
-  unfoldable pub at : ℕ → ℕ → E
-  at zero p = S .root
-  at (suc l) p = S .child (at l (p / S .children)) (p % S .children)
+  unfoldable pub elementAt : ℕ → ℕ → E
+  elementAt zero p = S .root
+  elementAt (suc l) p = S .child (elementAt l (p / S .children)) (p % S .children)
 
   -- the position of e, an element of level l
   unfoldable pub positionAt : ℕ → E → ℕ
@@ -41,7 +41,7 @@ module _ {E : Type 0} (S : Shape E) where
   position e = positionAt (S .level e) e
 
   abbrev pub successor : E → E
-  successor e = at (S .level e) (position e + 1)
+  successor e = elementAt (S .level e) (position e + 1)
 
   -- k levels down, always to child i
   unfoldable pub descend : ℕ → ℕ → E → E

@@ -1,9 +1,9 @@
 // What the code of the three shapes shares.
-use paper::OrderAnswer;
+use paper::CompareAnswer;
 ghost use mathlib.Core.Path.{_≡_};
 ghost use mathlib.Core.Bool.{cond};
 ghost use Rattle.paper.specs.Outcome.{accepted, same};
-ghost use Rattle.paper.specs.Readings.{orderOf};
+ghost use Rattle.paper.specs.Readings.{comparisonOf};
 ghost use Rattle.tree.specs.Anchors as anchors;
 ghost use Rattle.tree.specs.Anchors.{offGrid, bitAt, offEdge};
 ghost use Rattle.tree.specs.Words.{compared};
@@ -67,20 +67,20 @@ pub fn moved(x: u32, step: u8, h: u32) -> u32
 }
 
 // The order of two elements by where their first descendants of level 21 stand, then by level.
-pub fn order(first: u64, level: u8, second: u64, other: u8) -> OrderAnswer
-    ensures { λ r. ⌜ orderOf r ≡ accepted (compared first second (compared level other same)) ⌝ }
+pub fn order(first: u64, level: u8, second: u64, other: u8) -> CompareAnswer
+    ensures { λ r. ⌜ comparisonOf r ≡ accepted (compared first second (compared level other same)) ⌝ }
 {
     if first < second {
-        return OrderAnswer::Less;
+        return CompareAnswer::Less;
     }
     if second < first {
-        return OrderAnswer::Greater;
+        return CompareAnswer::Greater;
     }
     if level < other {
-        return OrderAnswer::Less;
+        return CompareAnswer::Less;
     }
     if other < level {
-        return OrderAnswer::Greater;
+        return CompareAnswer::Greater;
     }
-    OrderAnswer::Same
+    CompareAnswer::Same
 }

@@ -7,7 +7,7 @@ use native.Mathlib.Numerals.{add-one}
 use native.Mathlib.Omega.{arith}
 use lib.Dec.{lit<}
 use Rattle.tree.specs.Anchors.{side}
-use Rattle.tree.specs.Words.{at, positionAt, position}
+use Rattle.tree.specs.Words.{elementAt, positionAt, position}
 use Rattle.tree.proofs.Anchor.{side-edge}
 use Rattle.tree.proofs.Walk.{reached-start, reached-step, reached-end, climbed-start, climbed-step, climbed-end, sum-below}
 use Rattle.triangle.specs.declared.rows.Step.{Step}
@@ -26,7 +26,7 @@ binary = refl
 -- ---- down: what is reached with `left` levels to go
 pub record Reached (l p left x y t : ℕ) : Type 0 where
   pub fewer : left ≤ l
-  pub here : at triangle (l - left) (p / 2 ^ (2 * left)) ≡ unit 21 (l - left) x y t
+  pub here : elementAt triangle (l - left) (p / 2 ^ (2 * left)) ≡ unit 21 (l - left) x y t
   pub wide : x < 2 ^ (l - left)
   pub deep : y < 2 ^ (l - left)
   pub typed : t < 2
@@ -80,7 +80,7 @@ module _ (l p : ℕ) (shallow : l ≤ 21) where
         mod-eq-of-lt (omega (arith, side-edge 21 l shallow))
 
     pub end : left ≤ 0
-        → record { x = x * side 21 l % 4294967296; y = y * side 21 l % 4294967296; level = l; kind = t } ≡ at triangle l p
+        → record { x = x * side 21 l % 4294967296; y = y * side 21 l % 4294967296; level = l; kind = t } ≡ elementAt triangle l p
     end done =
         let all : l - left ≡ l = omega arith in
         let wide : x < 2 ^ l = subst (λ (k : ℕ). x < 2 ^ k) all (r .wide) in

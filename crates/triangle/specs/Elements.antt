@@ -6,7 +6,7 @@
 --
 --   triangleTo L   triangles as a shape, highest level L
 --   triangle       "highest level 21 for all three"
---   elementOf      the outcome that a TriangleAnswer stands for
+--   triangleOf      the outcome that a TriangleAnswer stands for
 --   equalColumns   whether the four lent columns are equally long
 --   Equal          that they are
 --   element i      entry i of them
@@ -102,9 +102,9 @@ module _ (L : ℕ) where
 abbrev pub triangle : Shape Triangle
 triangle = triangleTo 21
 
-abbrev pub elementOf : TriangleAnswer → Outcome Triangle
-elementOf (Is e) = accepted e
-elementOf (Refused number place) = refused number place
+abbrev pub triangleOf : TriangleAnswer → Outcome Triangle
+triangleOf (Is e) = accepted e
+triangleOf (Refused number place) = refused number place
 
 abbrev pub equalColumns : List ℕ → List ℕ → List ℕ → List ℕ → Bool
 equalColumns levels xs ys kinds =

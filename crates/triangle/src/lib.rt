@@ -1,14 +1,14 @@
 // Triangles: the ground plan of a prism. Each contract is one of the ten calls of `tree`, at this shape; `specs/Elements.antt`
 // says what a triangle is.
+use paper::CompareAnswer;
 use paper::NumberAnswer;
-use paper::OrderAnswer;
 use paper::TruthAnswer;
 ghost use mathlib.Core.Path.{_≡_};
 ghost use mathlib.Core.Bool.{not};
 ghost use Prim.Native.Nat.{_<_};
-ghost use Rattle.paper.specs.Readings.{valueOf, truthOf, orderOf};
+ghost use Rattle.paper.specs.Readings.{valueOf, truthOf, comparisonOf};
 ghost use Rattle.tree.specs.Calls;
-ghost use Rattle.triangle.specs.Elements.{triangle, elementOf, equalColumns, elements, insideRoot};
+ghost use Rattle.triangle.specs.Elements.{triangle, triangleOf, equalColumns, elements, insideRoot};
 
 mod family;
 pub mod rows;
@@ -45,7 +45,7 @@ impl Triangle {
 
     // The element of a level at a position. Refused: 1, 5.
     pub fn at(level: u8, position: u64) -> TriangleAnswer
-        ensures { λ r. ⌜ elementOf r ≡ Calls.at triangle level position ⌝ }
+        ensures { λ r. ⌜ triangleOf r ≡ Calls.at triangle level position ⌝ }
     {
         if 21 < level {
             return TriangleAnswer::Refused(1, 0);
@@ -69,7 +69,7 @@ impl Triangle {
 
     // The element that this one is a child of. Refused: 1, 2, 3, 4, 6.
     pub fn parent(self) -> TriangleAnswer
-        ensures { λ r. ⌜ elementOf r ≡ Calls.parent triangle self ⌝ }
+        ensures { λ r. ⌜ triangleOf r ≡ Calls.parent triangle self ⌝ }
     {
         let fault = self.fault();
         if fault != 0 {
@@ -83,7 +83,7 @@ impl Triangle {
 
     // A child by its number. Refused: 1, 2, 3, 4, 7, 8.
     pub fn child(self, number: u8) -> TriangleAnswer
-        ensures { λ r. ⌜ elementOf r ≡ Calls.child triangle self number ⌝ }
+        ensures { λ r. ⌜ triangleOf r ≡ Calls.child triangle self number ⌝ }
     {
         let fault = self.fault();
         if fault != 0 {
@@ -100,7 +100,7 @@ impl Triangle {
 
     // The next element of the level. Refused: 1, 2, 3, 4, 9.
     pub fn successor(self) -> TriangleAnswer
-        ensures { λ r. ⌜ elementOf r ≡ Calls.successor triangle self ⌝ }
+        ensures { λ r. ⌜ triangleOf r ≡ Calls.successor triangle self ⌝ }
     {
         let fault = self.fault();
         if fault != 0 {
@@ -116,7 +116,7 @@ impl Triangle {
 
     // The first descendant at a level. Refused: 1, 2, 3, 4, then 1, 6 for the level.
     pub fn first_descendant(self, level: u8) -> TriangleAnswer
-        ensures { λ r. ⌜ elementOf r ≡ Calls.first triangle self level ⌝ }
+        ensures { λ r. ⌜ triangleOf r ≡ Calls.first triangle self level ⌝ }
     {
         let fault = self.fault();
         if fault != 0 {
@@ -138,7 +138,7 @@ impl Triangle {
 
     // The last descendant at a level. Refused: 1, 2, 3, 4, then 1, 6 for the level.
     pub fn last_descendant(self, level: u8) -> TriangleAnswer
-        ensures { λ r. ⌜ elementOf r ≡ Calls.last triangle self level ⌝ }
+        ensures { λ r. ⌜ triangleOf r ≡ Calls.last triangle self level ⌝ }
     {
         let fault = self.fault();
         if fault != 0 {
@@ -155,7 +155,7 @@ impl Triangle {
 
     // The element across a face. Refused: 1, 2, 3, 4, 8, 10.
     pub fn neighbour(self, face: u8) -> TriangleAnswer
-        ensures { λ r. ⌜ elementOf r ≡ Calls.neighbour triangle self face ⌝ }
+        ensures { λ r. ⌜ triangleOf r ≡ Calls.neighbour triangle self face ⌝ }
     {
         let fault = self.fault();
         if fault != 0 {
@@ -168,16 +168,16 @@ impl Triangle {
     }
 
     // The order of two elements. Refused: 1, 2, 3, 4, at place 0 or 1.
-    pub fn compare(self, other: Triangle) -> OrderAnswer
-        ensures { λ r. ⌜ orderOf r ≡ Calls.order triangle self other ⌝ }
+    pub fn compare(self, other: Triangle) -> CompareAnswer
+        ensures { λ r. ⌜ comparisonOf r ≡ Calls.order triangle self other ⌝ }
     {
         let fault = self.fault();
         if fault != 0 {
-            return OrderAnswer::Refused(fault, 0);
+            return CompareAnswer::Refused(fault, 0);
         }
         let second = other.fault();
         if second != 0 {
-            return OrderAnswer::Refused(second, 1);
+            return CompareAnswer::Refused(second, 1);
         }
         tree::order(self.start(), self.level, other.start(), other.level)
     }

@@ -6,7 +6,7 @@ use crate::rows;
 ghost use mathlib.Core.Path.{_≡_};
 ghost use Prim.Native.Nat.{_^_, _≤_, _<_};
 ghost use Rattle.tree.specs.Words;
-ghost use Rattle.triangle.specs.Elements.{triangle, elementOf};
+ghost use Rattle.triangle.specs.Elements.{triangle, triangleOf};
 
 // No check fails.
 const SOUND: u8 = 0;
@@ -128,7 +128,7 @@ impl Triangle {
 
     pub(crate) fn across(self, face: u8) -> TriangleAnswer
         requires { ⌜ (triangle .fault self ≡ 0) × (face < 3) ⌝ }
-        ensures { λ r. ⌜ elementOf r ≡ triangle .neighbour self face ⌝ }
+        ensures { λ r. ⌜ triangleOf r ≡ triangle .neighbour self face ⌝ }
     {
         let h = tree::side(self.level);
         let s = rows::face_row(self.kind, face);
@@ -156,7 +156,7 @@ impl Triangle {
 // The element at a position that the level has: down from the root, one digit a level, in units of the side.
 pub(crate) fn placed(level: u8, position: u64) -> Triangle
     requires { ⌜ (level ≤ 21) × (position < 4 ^ level) ⌝ }
-    ensures { λ r. ⌜ r ≡ Words.at triangle level position ⌝ }
+    ensures { λ r. ⌜ r ≡ Words.elementAt triangle level position ⌝ }
 {
     let mut x = 0u32;
     let mut y = 0u32;

@@ -7,7 +7,7 @@ use borrow.Author.Needs.{needs}
 use borrow.Author.Tests.{not-true, not-false}
 use Rattle.paper.specs.Outcome.{accepted}
 use Rattle.tree.specs.Laws.{Sound}
-use Rattle.tree.specs.Words.{at}
+use Rattle.tree.specs.Words.{elementAt}
 use Rattle.tree.proofs.Digits.{shifted-power}
 use Rattle.prism.specs.declared.Prism.{Prism}
 use Rattle.prism.specs.Elements.{prism}
@@ -93,7 +93,7 @@ record Known (l p i : ℕ) (r : Root) (e : Prism) : Type 0 where
   below : p < 8 ^ l
   small : i < 6
   near : rootWithin r ≡ true
-  is : e ≡ at prism l p
+  is : e ≡ elementAt prism l p
   sound : Sound prism e
 
 known : (c : tie.After-known-told)

@@ -5,7 +5,7 @@ use native.Mathlib.Numerals.{add-one}
 use native.Mathlib.Omega.{arith}
 use lib.Pow.{pow-pos}
 use borrow.Author.Needs.{needs}
-use Rattle.leaves.specs.Leaves.{place}
+use Rattle.leaves.specs.Leaves.{spotAt}
 use Rattle.gridfile.specs.Passes.{runOf, spotOf}
 use Rattle.gridfile.proofs.Taking.{run-taken}
 use Rattle.gridfile.proofs.Spots.{few-levels, fits-whole}
@@ -23,7 +23,7 @@ add-before : tie.Need-add-before Inv-loop μ-loop
 add-before c = omega (arith, few-levels (c .before .args .bits) (c .before .args .highest) (c .before .pre .0) (c .before .pre .1 .0))
 
 loop-holds : tie.Need-loop-holds Inv-loop μ-loop
-loop-holds c = subst⁻¹ (λ (m : ℕ). Going (2 ^ (c .before .args .bits)) (c .before .args .highest) (c .before .args .k) (pow-pos (c .before .args .bits)) (c .before .args .bytes .now) (c .before .args .runs) (c .before .args .at) (c .before .args .runs) (c .before .args .at) m (place 0 0) 0) (add-one (c .before .args .highest)) (going-start (2 ^ (c .before .args .bits)) (c .before .args .highest) (c .before .args .k) (pow-pos (c .before .args .bits)) (c .before .args .bytes .now) (c .before .args .runs) (c .before .args .at))
+loop-holds c = subst⁻¹ (λ (m : ℕ). Going (2 ^ (c .before .args .bits)) (c .before .args .highest) (c .before .args .k) (pow-pos (c .before .args .bits)) (c .before .args .bytes .now) (c .before .args .runs) (c .before .args .at) (c .before .args .runs) (c .before .args .at) m (spotAt 0 0) 0) (add-one (c .before .args .highest)) (going-start (2 ^ (c .before .args .bits)) (c .before .args .highest) (c .before .args .k) (pow-pos (c .before .args .bits)) (c .before .args .bytes .now) (c .before .args .runs) (c .before .args .at))
 
 run-at-requires : tie.Need-run-at-requires Inv-loop μ-loop
 run-at-requires c κs = ((c .before .before .before .pre .0), ((c .before .before .before .pre .1 .0), ((c .before .loop .inv .few), (omega (arith, (c .before .loop .inv .low), (c .before .before .before .pre .1 .1)), (c .before .loop .inv .proper)))))

@@ -19,11 +19,11 @@ word-requires c κs = search needs
 
 returns : tie.Need-returns
 unfolding lineResult
-returns c = ap (λ (a : LineAnswer). lineResult (lines.elementOf a)) (sym (c .before .a .given .1))
+returns c = ap (λ (a : LineAnswer). lineResult (lines.lineOf a)) (sym (c .before .a .given .1))
 
 returns-2 : tie.Need-returns-2
 unfolding lineResult
-returns-2 c = ap (λ (w : ℕ). record { refusal = w; value = record { x = 0; level = 0 } }) (c .word .ensures) ∙ ap (λ (a : LineAnswer). lineResult (lines.elementOf a)) (sym (c .before .before .a2 .given .1))
+returns-2 c = ap (λ (w : ℕ). record { refusal = w; value = record { x = 0; level = 0 } }) (c .word .ensures) ∙ ap (λ (a : LineAnswer). lineResult (lines.lineOf a)) (sym (c .before .before .a2 .given .1))
 
 pub of-line-spec : {M : Type 1} → statement M
 of-line-spec = tie.close (tie.spec enum-known-a enum-known-a-2 word-requires returns returns-2)

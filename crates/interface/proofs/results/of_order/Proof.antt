@@ -1,13 +1,13 @@
--- `of_order` meets its contract, by the answer's four cases. Assumes nothing.
+-- `of_comparison` meets its contract, by the answer's four cases. Assumes nothing.
 use mathlib.Core.Path.{ap, _∙_, sym}
 use Prim.Native.Nat.{ℕ}
 use lib.IntN.{pos}
 use borrow.Author.Needs.{needs}
-use Rattle.paper.specs.Readings.{orderOf}
-use Rattle.paper.specs.declared.OrderAnswer.{OrderAnswer}
-use Rattle.interface.specs.Results.{orderResult}
-use Rattle.interface.proofs.results.of_order.Statement.{statement}
-use Rattle.interface.proofs.results.of_order.Tie as tie
+use Rattle.paper.specs.Readings.{comparisonOf}
+use Rattle.paper.specs.declared.CompareAnswer.{CompareAnswer}
+use Rattle.interface.specs.Results.{compareResult}
+use Rattle.interface.proofs.results.of_comparison.Statement.{statement}
+use Rattle.interface.proofs.results.of_comparison.Tie as tie
 
 enum-told : tie.Need-enum-told
 enum-told c = search needs
@@ -25,20 +25,20 @@ word-requires : tie.Need-word-requires
 word-requires c κs = search needs
 
 returns : tie.Need-returns
-unfolding orderResult
-returns c = ap (λ (a : OrderAnswer). orderResult (orderOf a)) (sym (c .enum-told .given .1))
+unfolding compareResult
+returns c = ap (λ (a : CompareAnswer). compareResult (comparisonOf a)) (sym (c .enum-told .given .1))
 
 returns-2 : tie.Need-returns-2
-unfolding orderResult
-returns-2 c = ap (λ (a : OrderAnswer). orderResult (orderOf a)) (sym (c .enum-told2 .given .1))
+unfolding compareResult
+returns-2 c = ap (λ (a : CompareAnswer). compareResult (comparisonOf a)) (sym (c .enum-told2 .given .1))
 
 returns-3 : tie.Need-returns-3
-unfolding orderResult
-returns-3 c = ap (λ (a : OrderAnswer). orderResult (orderOf a)) (sym (c .enum-told3 .given .1))
+unfolding compareResult
+returns-3 c = ap (λ (a : CompareAnswer). compareResult (comparisonOf a)) (sym (c .enum-told3 .given .1))
 
 returns-4 : tie.Need-returns-4
-unfolding orderResult
-returns-4 c = ap (λ (w : ℕ). record { refusal = w; value = pos 0 }) (c .word .ensures) ∙ ap (λ (a : OrderAnswer). orderResult (orderOf a)) (sym (c .before .before .a .given .1))
+unfolding compareResult
+returns-4 c = ap (λ (w : ℕ). record { refusal = w; value = pos 0 }) (c .word .ensures) ∙ ap (λ (a : CompareAnswer). compareResult (comparisonOf a)) (sym (c .before .before .a .given .1))
 
 pub of-order-spec : {M : Type 1} → statement M
 of-order-spec =

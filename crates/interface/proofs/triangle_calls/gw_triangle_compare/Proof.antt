@@ -1,7 +1,7 @@
 -- `gw_triangle_compare` meets its contract: the result of the call's outcome. Assumes nothing.
 use mathlib.Core.Path.{ap, _∙_}
 use borrow.Author.Needs.{needs}
-use Rattle.interface.specs.Results.{orderResult}
+use Rattle.interface.specs.Results.{compareResult}
 use Rattle.interface.proofs.triangle_calls.gw_triangle_compare.Statement.{statement}
 use Rattle.interface.proofs.triangle_calls.gw_triangle_compare.Tie as tie
 
@@ -12,7 +12,7 @@ of-order-requires : tie.Need-of-order-requires
 of-order-requires c κs = search needs
 
 returns : tie.Need-returns
-returns c = c .of-order .ensures ∙ ap orderResult (c .before .compare .ensures)
+returns c = c .of-order .ensures ∙ ap compareResult (c .before .compare .ensures)
 
 pub gw-triangle-compare-spec : {M : Type 1} → statement M
 gw-triangle-compare-spec = tie.close (tie.spec compare-requires of-order-requires returns)

@@ -5,7 +5,7 @@ use native.Mathlib.Omega.{arith}
 use lib.Pow.{pow-mono, pow-lt}
 use borrow.Author.Needs.{needs}
 use Rattle.paper.specs.Outcome.{accepted}
-use Rattle.tree.specs.Words.{last, at}
+use Rattle.tree.specs.Words.{last, elementAt}
 use Rattle.tree.proofs.RoundTrip.{position-lt}
 use Rattle.tree.proofs.Call.{faulty, successor-refused-9, successor-accepted}
 use Rattle.tree.proofs.Anchor.{shifted-one}
@@ -54,7 +54,7 @@ placed-requires c κs =
 returns-3 : tie.Need-returns-3
 unfolding lineTo
 returns-3 c =
-    ap accepted (c .placed .ensures ∙ ap (λ (k : ℕ). at line (c .before .before .before .before .before .args .self .level) (k + 1)) (c .before .before .rank .ensures))
+    ap accepted (c .placed .ensures ∙ ap (λ (k : ℕ). elementAt line (c .before .before .before .before .before .args .self .level) (k + 1)) (c .before .before .rank .ensures))
     ∙ sym (successor-accepted line (c .before .before .before .before .before .args .self) (sym (c .before .before .before .before .fault .ensures) ∙ c .before .before .before .if1 .left) (λ end. c .before .if2 .left (ap (λ (k : ℕ). k + 1) (c .before .before .rank .ensures) ∙ end ∙ sym (shifted-one (c .before .before .before .before .before .args .self .level) (2 ^ 64) (pow-lt {i = c .before .before .before .before .before .args .self .level} {j = 64} (omega (arith, sound-level 21 (c .before .before .before .before .before .args .self .level) (c .before .before .before .before .before .args .self .x) (sym (c .before .before .before .before .fault .ensures) ∙ c .before .before .before .if1 .left))))))))
 
 pub successor-spec : {M : Type 1} → statement M

@@ -5,7 +5,7 @@ use Rattle.paper.specs.Outcome.{Outcome}
 use Rattle.orders.specs.declared.Form.{Form}
 use Rattle.orders.specs.Orders.{formOf}
 use Rattle.orders.specs.Text.{printed}
-use Rattle.orders.specs.Steps.{Put, SoundForm, Sound}
+use Rattle.orders.specs.Steps.{Put, OrderlyForm, Orderly}
 use Rattle.orders.proofs.Sharing.{first-end, printed-form}
 use Rattle.orders.proofs.text.answer.Statement.{statement}
 use Rattle.orders.proofs.text.answer.Tie as tie
@@ -19,7 +19,7 @@ first-line-requires c κs = search needs
 share-lines-requires : tie.Need-share-lines-requires
 share-lines-requires c κs =
     let f = (c .before .before .before .before .before .before .asked .given .0 .0) in
-    let sound : SoundForm f = subst Sound (ap formOf (c .before .before .before .before .before .before .asked .given .1)) (c .before .before .before .before .before .before .before .before .before .pre) in
+    let sound : OrderlyForm f = subst Orderly (ap formOf (c .before .before .before .before .before .before .asked .given .1)) (c .before .before .before .before .before .before .before .before .before .pre) in
     (first-end f (c .before .before .before .first-line .result) _ _ (c .before .before .before .first-line .ensures), (sound .few-leaves, sound .few-shares))
 
 enum-known-asked-2 : tie.Need-enum-known-asked-2
@@ -34,7 +34,7 @@ same-length c = search needs
 returns : tie.Need-returns
 returns c =
     let f = (c .before .before .before .before .before .before .before .before .before .asked .given .0 .0) in
-    let sound : SoundForm f = subst Sound (ap formOf (c .before .before .before .before .before .before .before .before .before .asked .given .1)) (c .before .before .before .before .before .before .before .before .before .before .before .before .pre) in
+    let sound : OrderlyForm f = subst Orderly (ap formOf (c .before .before .before .before .before .before .before .before .before .asked .given .1)) (c .before .before .before .before .before .before .before .before .before .before .before .before .pre) in
     subst⁻¹ (λ (o : Outcome Form). Put (printed o) 0 (c .before .before .before .before .before .before .before .before .before .before .before .before .args .out .now) (c .before .before .share-lines .last .0) (c .before .before .share-lines .result)) (ap formOf (c .before .before .before .before .before .before .before .before .before .asked .given .1))
     (printed-form f (c .before .before .before .before .before .before .first-line .result) (c .before .before .share-lines .result) _ _ _ sound (c .before .before .before .before .before .before .first-line .ensures) (c .before .before .share-lines .ensures))
 

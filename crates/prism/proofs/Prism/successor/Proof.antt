@@ -6,7 +6,7 @@ use native.Mathlib.Nat.{pow-le-pow-right}
 use lib.Dec.{lit<}
 use borrow.Author.Needs.{needs}
 use Rattle.paper.specs.Outcome.{accepted}
-use Rattle.tree.specs.Words.{last, at}
+use Rattle.tree.specs.Words.{last, elementAt}
 use Rattle.tree.proofs.RoundTrip.{position-lt}
 use Rattle.tree.proofs.Digits.{shifted-power}
 use Rattle.tree.proofs.Call.{faulty, successor-refused-9, successor-accepted}
@@ -72,7 +72,7 @@ returns-3 : tie.Need-returns-3
 unfolding prismTo
 returns-3 c =
     let shallow = grids 21 (c .before .before .before .before .before .args .self) (sym (c .before .before .before .before .fault .ensures) ∙ c .before .before .before .if1 .left) .0 .shallow in
-    ap accepted (c .placed .ensures ∙ ap (λ (k : ℕ). at prism (c .before .before .before .before .before .args .self .level) (k + 1)) (c .before .before .rank .ensures))
+    ap accepted (c .placed .ensures ∙ ap (λ (k : ℕ). elementAt prism (c .before .before .before .before .before .args .self .level) (k + 1)) (c .before .before .rank .ensures))
     ∙ sym (successor-accepted prism (c .before .before .before .before .before .args .self) (sym (c .before .before .before .before .fault .ensures) ∙ c .before .before .before .if1 .left) (λ end. c .before .if2 .left (ap (λ (k : ℕ). k + 1) (c .before .before .rank .ensures) ∙ end ∙ sym (shifted-power 3 (c .before .before .before .before .before .args .self .level) (omega arith)))))
 
 pub successor-spec : {M : Type 1} → statement M
