@@ -3,7 +3,7 @@ use Prim.Native.Nat.{_+_, _-_}
 use native.Mathlib.Omega.{arith}
 use lib.ListN.{length}
 use borrow.Author.Needs.{needs}
-use Rattle.shares.specs.Turns.{Within}
+use Rattle.shares.specs.Inner.{Within}
 use Rattle.shares.proofs.Turns.{reached-part}
 use Rattle.shares.proofs.division.stride.Statement.{statement}
 use Rattle.shares.proofs.division.stride.Tie as tie
