@@ -32,10 +32,11 @@ returns-4 c = simp (sym (c .before .before .before .before .before .out-of-range
 
 walk-requires : tie.Need-walk-requires
 walk-requires c κs =
-    let equal = and-eq-true-iff (eqb (length (c .before .before .before .before .before .before .before .before .before .args .roots .now)) (length (c .before .before .before .before .before .before .before .before .before .args .levels .now))) (eqb (length (c .before .before .before .before .before .before .before .before .before .args .roots .now)) (length (c .before .before .before .before .before .before .before .before .before .args .positions .now))) .0 (sym (c .before .before .before .equal-lengths .ensures) ∙ not-false (c .before .before .before .equal-lengths .result) (c .before .before .if2 .left)) in
-    let range = or-none (eqb (c .before .before .before .before .before .before .before .before .before .args .k) 0) (ltb 4096 (c .before .before .before .before .before .before .before .before .before .args .k)) (sym (c .before .before .before .before .before .out-of-range .ensures) ∙ (c .before .before .before .before .if1 .left)) in
-    let other = eqb-false (c .before .before .before .before .before .before .before .before .before .args .k) 0 (range .0) in
-    (omega arith, (omega arith, (omega arith, (eqb-true (length (c .before .before .before .before .before .before .before .before .before .args .roots .now)) (length (c .before .before .before .before .before .before .before .before .before .args .levels .now)) (equal .0), eqb-true (length (c .before .before .before .before .before .before .before .before .before .args .roots .now)) (length (c .before .before .before .before .before .before .before .before .before .args .positions .now)) (equal .1)))))
+    let a = c .before .before .before .before .before .before .before .before .before .args in
+    let equal = and-eq-true-iff (eqb (length (a .roots .now)) (length (a .levels .now))) (eqb (length (a .roots .now)) (length (a .positions .now))) .0 (sym (c .before .before .before .equal-lengths .ensures) ∙ not-false (c .before .before .before .equal-lengths .result) (c .before .before .if2 .left)) in
+    let range = or-none (eqb (a .k) 0) (ltb 4096 (a .k)) (sym (c .before .before .before .before .before .out-of-range .ensures) ∙ (c .before .before .before .before .if1 .left)) in
+    let other = eqb-false (a .k) 0 (range .0) in
+    (omega arith, (omega arith, (omega arith, (eqb-true (length (a .roots .now)) (length (a .levels .now)) (equal .0), eqb-true (length (a .roots .now)) (length (a .positions .now)) (equal .1)))))
 
 returns-5 : tie.Need-returns-5
 returns-5 c = simp (sym (c .before .before .before .before .before .before .before .before .out-of-range .ensures), (c .before .before .before .before .before .before .before .if1 .left), sym (c .before .before .before .before .before .before .equal-lengths .ensures), not-false (c .before .before .before .before .before .before .equal-lengths .result) (c .before .before .before .before .before .if2 .left), ne-eqb (length (c .before .before .before .before .before .before .before .before .before .before .before .before .args .roots .now)) 0 (c .before .before .before .before .if3 .left), le-ltb 1048576 (length (c .before .before .before .before .before .before .before .before .before .before .before .before .args .roots .now)) (c .before .before .before .if4 .left)) (sym (fault-taken (c .before .before .walk .result .number) (c .before .before .walk .result .place) passed (c .if5 .taken)) ∙ (c .before .before .walk .ensures))
