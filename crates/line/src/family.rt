@@ -48,7 +48,7 @@ pub(crate) fn are_siblings(levels: &[u8], xs: &[u32]) -> bool
     requires { ⌜ (length (now levels) ≡ length (now xs)) × (checks (line .fault) (elements (now levels) (now xs)) ≡ passed) ⌝ }
     ensures { λ r. ⌜ r ≡ Words.family line (elements (now (levels .entry)) (now (xs .entry))) ⌝ }
 {
-    if levels.len() != 2 {
+    if levels.len() != Line::CHILDREN as usize {
         return false;
     }
     let first = row(levels, xs, 0);
@@ -57,7 +57,7 @@ pub(crate) fn are_siblings(levels: &[u8], xs: &[u32]) -> bool
     }
     let parent = first.up();
     let mut i = 0;
-    while i < 2 {
+    while i < Line::CHILDREN as usize {
         if !parent.down(i as u8).equals(row(levels, xs, i)) {
             return false;
         }

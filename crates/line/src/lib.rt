@@ -3,6 +3,7 @@
 use paper::CompareAnswer;
 use paper::NumberAnswer;
 use paper::TruthAnswer;
+use tree::HIGHEST;
 ghost use mathlib.Core.Path.{_≡_};
 ghost use Prim.Native.Nat.{_<_};
 ghost use lib.Dec.{eqb};
@@ -37,7 +38,7 @@ impl Line {
     pub fn at(level: u8, position: u64) -> LineAnswer
         ensures { λ r. ⌜ lineOf r ≡ Calls.at line level position ⌝ }
     {
-        if 21 < level {
+        if HIGHEST < level {
             return LineAnswer::Refused(1, 0);
         }
         if 1u64 << level <= position {
@@ -79,7 +80,7 @@ impl Line {
         if fault != 0 {
             return LineAnswer::Refused(fault, 0);
         }
-        if 21 <= self.level {
+        if HIGHEST <= self.level {
             return LineAnswer::Refused(7, 0);
         }
         if Self::CHILDREN <= number {
@@ -112,7 +113,7 @@ impl Line {
         if fault != 0 {
             return LineAnswer::Refused(fault, 0);
         }
-        if 21 < level {
+        if HIGHEST < level {
             return LineAnswer::Refused(1, 0);
         }
         if level < self.level {
@@ -129,7 +130,7 @@ impl Line {
         if fault != 0 {
             return LineAnswer::Refused(fault, 0);
         }
-        if 21 < level {
+        if HIGHEST < level {
             return LineAnswer::Refused(1, 0);
         }
         if level < self.level {

@@ -51,7 +51,7 @@ pub(crate) fn are_siblings(levels: &[u8], xs: &[u32], ys: &[u32], zs: &[u32], ki
     requires { ⌜ Equal (now levels) (now xs) (now ys) (now zs) (now kinds) × (checks (prism .fault) (elements (now levels) (now xs) (now ys) (now zs) (now kinds)) ≡ passed) ⌝ }
     ensures { λ r. ⌜ r ≡ Words.family prism (elements (now (levels .entry)) (now (xs .entry)) (now (ys .entry)) (now (zs .entry)) (now (kinds .entry))) ⌝ }
 {
-    if levels.len() != 8 {
+    if levels.len() != Prism::CHILDREN as usize {
         return false;
     }
     let first = row(levels, xs, ys, zs, kinds, 0);
@@ -60,7 +60,7 @@ pub(crate) fn are_siblings(levels: &[u8], xs: &[u32], ys: &[u32], zs: &[u32], ki
     }
     let parent = first.up();
     let mut i = 0;
-    while i < 8 {
+    while i < Prism::CHILDREN as usize {
         if !parent
             .down(i as u8)
             .equals(row(levels, xs, ys, zs, kinds, i)) {

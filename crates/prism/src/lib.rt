@@ -3,6 +3,7 @@
 use paper::CompareAnswer;
 use paper::NumberAnswer;
 use paper::TruthAnswer;
+use tree::HIGHEST;
 ghost use mathlib.Core.Path.{_≡_};
 ghost use Prim.Native.Nat.{_<_};
 ghost use Rattle.paper.specs.Readings.{valueOf, truthOf, comparisonOf};
@@ -40,7 +41,7 @@ impl Prism {
     pub fn at(level: u8, position: u64) -> PrismAnswer
         ensures { λ r. ⌜ prismOf r ≡ Calls.at prism level position ⌝ }
     {
-        if 21 < level {
+        if HIGHEST < level {
             return PrismAnswer::Refused(1, 0);
         }
         if 1u64 << (3 * level) <= position {
@@ -82,7 +83,7 @@ impl Prism {
         if fault != 0 {
             return PrismAnswer::Refused(fault, 0);
         }
-        if 21 <= self.level {
+        if HIGHEST <= self.level {
             return PrismAnswer::Refused(7, 0);
         }
         if Self::CHILDREN <= number {
@@ -115,7 +116,7 @@ impl Prism {
         if fault != 0 {
             return PrismAnswer::Refused(fault, 0);
         }
-        if 21 < level {
+        if HIGHEST < level {
             return PrismAnswer::Refused(1, 0);
         }
         if level < self.level {
@@ -138,7 +139,7 @@ impl Prism {
         if fault != 0 {
             return PrismAnswer::Refused(fault, 0);
         }
-        if 21 < level {
+        if HIGHEST < level {
             return PrismAnswer::Refused(1, 0);
         }
         if level < self.level {

@@ -5,12 +5,14 @@ use crate::PrismAnswer;
 use crate::rows;
 use line::Line;
 use line::LineAnswer;
+use tree::HIGHEST;
 use triangle::Triangle;
 use triangle::TriangleAnswer;
 ghost use mathlib.Core.Path.{_≡_};
 ghost use Prim.Native.Nat.{_^_, _≤_, _<_};
+ghost use Rattle.tree.specs.Anchors.{HIGHEST};
 ghost use Rattle.tree.specs.Words;
-ghost use Rattle.prism.specs.Elements.{prism, prismOf, plan, upright, product};
+ghost use Rattle.prism.specs.Elements.{CHILDREN, FACES, prism, prismOf, plan, upright, product};
 
 // No check fails.
 const SOUND: u8 = 0;
@@ -20,7 +22,7 @@ impl Prism {
     pub(crate) fn fault(self) -> u8
         ensures { λ r. ⌜ r ≡ prism .fault self ⌝ }
     {
-        if 21 < self.level {
+        if HIGHEST < self.level {
             return 1;
         }
         if tree::off_grid(self.level, self.x) {
@@ -94,7 +96,7 @@ impl Prism {
     }
 
     pub(crate) fn down(self, number: u8) -> Prism
-        requires { ⌜ (prism .fault self ≡ 0) × ((self .level < 21) × (number < 8)) ⌝ }
+        requires { ⌜ (prism .fault self ≡ 0) × ((self .level < HIGHEST) × (number < CHILDREN)) ⌝ }
         ensures { λ r. ⌜ r ≡ prism .child self number ⌝ }
     {
         let TriangleAnswer::Is(t) = self.plan().child(number % 4) else {
@@ -107,7 +109,7 @@ impl Prism {
     }
 
     pub(crate) fn bottom(self, level: u8) -> Prism
-        requires { ⌜ (prism .fault self ≡ 0) × ((self .level ≤ level) × (level ≤ 21)) ⌝ }
+        requires { ⌜ (prism .fault self ≡ 0) × ((self .level ≤ level) × (level ≤ HIGHEST)) ⌝ }
         ensures { λ r. ⌜ r ≡ Words.last prism self level ⌝ }
     {
         let TriangleAnswer::Is(t) = self.plan().last_descendant(level) else {
@@ -120,7 +122,7 @@ impl Prism {
     }
 
     pub(crate) fn across(self, face: u8) -> PrismAnswer
-        requires { ⌜ (prism .fault self ≡ 0) × (face < 5) ⌝ }
+        requires { ⌜ (prism .fault self ≡ 0) × (face < FACES) ⌝ }
         ensures { λ r. ⌜ prismOf r ≡ prism .neighbour self face ⌝ }
     {
         let h = tree::side(self.level);
@@ -156,7 +158,7 @@ impl Prism {
         ensures { λ r. ⌜ r ≡ Words.position prism self ⌝ }
     {
         let level = self.level;
-        let s = 21 - level;
+        let s = HIGHEST - level;
         let mut x = self.x >> s;
         let mut y = self.y >> s;
         let mut z = self.z >> s;
@@ -175,12 +177,12 @@ impl Prism {
         sum
     }
 
-    // The position of the first descendant of level 21.
+    // The position of the first descendant of the highest level.
     pub(crate) fn start(self) -> u64
         requires { ⌜ prism .fault self ≡ 0 ⌝ }
-        ensures { λ r. ⌜ r ≡ Words.position prism (Words.first prism self 21) ⌝ }
+        ensures { λ r. ⌜ r ≡ Words.position prism (Words.first prism self HIGHEST) ⌝ }
     {
-        self.rank() << (3 * (21 - self.level))
+        self.rank() << (3 * (HIGHEST - self.level))
     }
 }
 
@@ -199,7 +201,7 @@ fn product(t: Triangle, m: Line) -> Prism
 
 // The element at a position that the level has: down from the root, one digit a level, in units of the side.
 pub(crate) fn placed(level: u8, position: u64) -> Prism
-    requires { ⌜ (level ≤ 21) × (position < 8 ^ level) ⌝ }
+    requires { ⌜ (level ≤ HIGHEST) × (position < CHILDREN ^ level) ⌝ }
     ensures { λ r. ⌜ r ≡ Words.elementAt prism level position ⌝ }
 {
     let mut x = 0u32;
@@ -216,7 +218,7 @@ pub(crate) fn placed(level: u8, position: u64) -> Prism
         z = 2 * z + (d / 4) as u32;
         kind = s.kind;
     }
-    let s = 21 - level;
+    let s = HIGHEST - level;
     Prism {
         x: x << s,
         y: y << s,

@@ -1,12 +1,12 @@
 -- Document 01, "Elements": triangles. L is the highest level; the field `kind` is the type. Definitions only.
 --
 --   "The root is type 0. Inside the root means y <= x for type 0 and y < x for type 1"
---   "children .. 4 ..; faces .. 3 ..; corners .. 3"
 --   Faults: 1 level above the highest, 2 anchor 2^21 or more, or no multiple of h, 3 type above 1, 4 outside the root
 --
+--   CHILDREN, FACES, CORNERS   "children .. 4 ..; faces .. 3 ..; corners .. 3"
 --   triangleTo L   triangles as a shape, highest level L
 --   triangle       "highest level 21 for all three"
---   triangleOf      the outcome that a TriangleAnswer stands for
+--   triangleOf     the outcome that a TriangleAnswer stands for
 --   equalColumns   whether the four lent columns are equally long
 --   Equal          that they are
 --   element i      entry i of them
@@ -21,12 +21,21 @@ use lib.Dec.{leb, ltb, eqb}
 use lib.ListN.{length, getD}
 use Rattle.paper.specs.Outcome.{Outcome, accepted, refused, refuse-when, fault-when, rows}
 use Rattle.tree.specs.Shape.{Shape}
-use Rattle.tree.specs.Anchors.{side, offGrid, rounded, bitAt, moved, offEdge}
+use Rattle.tree.specs.Anchors.{HIGHEST, side, offGrid, rounded, bitAt, moved, offEdge}
 use Rattle.triangle.specs.declared.rows.Step.{Step}
 use Rattle.triangle.specs.declared.Triangle.{Triangle}
 use Rattle.triangle.specs.declared.TriangleAnswer.{TriangleAnswer}
 use Rattle.triangle.specs.declared.TriangleAnswer.the-variants.{Is, Refused}
 use Rattle.triangle.specs.Rows.{step, childRow, parentKind, numberOf, faceRow}
+
+abbrev pub CHILDREN : ℕ
+CHILDREN = 4
+
+abbrev pub FACES : ℕ
+FACES = 3
+
+abbrev pub CORNERS : ℕ
+CORNERS = 3
 
 -- by type: x and y of an anchor
 abbrev pub insideRoot : ℕ → ℕ → ℕ → Bool
@@ -85,9 +94,9 @@ module _ (L : ℕ) where
   unfoldable pub triangleTo : Shape Triangle
   triangleTo =
       record {
-        children = 4;
-        faces = 3;
-        corners = 3;
+        children = CHILDREN;
+        faces = FACES;
+        corners = CORNERS;
         highest = L;
         level = λ e. e .level;
         fault = fault;
@@ -100,7 +109,7 @@ module _ (L : ℕ) where
       }
 
 abbrev pub triangle : Shape Triangle
-triangle = triangleTo 21
+triangle = triangleTo HIGHEST
 
 abbrev pub triangleOf : TriangleAnswer → Outcome Triangle
 triangleOf (Is e) = accepted e

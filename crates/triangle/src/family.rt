@@ -50,7 +50,7 @@ pub(crate) fn are_siblings(levels: &[u8], xs: &[u32], ys: &[u32], kinds: &[u8]) 
     requires { ⌜ Equal (now levels) (now xs) (now ys) (now kinds) × (checks (triangle .fault) (elements (now levels) (now xs) (now ys) (now kinds)) ≡ passed) ⌝ }
     ensures { λ r. ⌜ r ≡ Words.family triangle (elements (now (levels .entry)) (now (xs .entry)) (now (ys .entry)) (now (kinds .entry))) ⌝ }
 {
-    if levels.len() != 4 {
+    if levels.len() != Triangle::CHILDREN as usize {
         return false;
     }
     let first = row(levels, xs, ys, kinds, 0);
@@ -59,7 +59,7 @@ pub(crate) fn are_siblings(levels: &[u8], xs: &[u32], ys: &[u32], kinds: &[u8]) 
     }
     let parent = first.up();
     let mut i = 0;
-    while i < 4 {
+    while i < Triangle::CHILDREN as usize {
         if !parent.down(i as u8).equals(row(levels, xs, ys, kinds, i)) {
             return false;
         }

@@ -3,6 +3,7 @@
 use paper::CompareAnswer;
 use paper::NumberAnswer;
 use paper::TruthAnswer;
+use tree::HIGHEST;
 ghost use mathlib.Core.Path.{_≡_};
 ghost use mathlib.Core.Bool.{not};
 ghost use Prim.Native.Nat.{_<_};
@@ -47,7 +48,7 @@ impl Triangle {
     pub fn at(level: u8, position: u64) -> TriangleAnswer
         ensures { λ r. ⌜ triangleOf r ≡ Calls.at triangle level position ⌝ }
     {
-        if 21 < level {
+        if HIGHEST < level {
             return TriangleAnswer::Refused(1, 0);
         }
         if 1u64 << (2 * level) <= position {
@@ -89,7 +90,7 @@ impl Triangle {
         if fault != 0 {
             return TriangleAnswer::Refused(fault, 0);
         }
-        if 21 <= self.level {
+        if HIGHEST <= self.level {
             return TriangleAnswer::Refused(7, 0);
         }
         if Self::CHILDREN <= number {
@@ -122,7 +123,7 @@ impl Triangle {
         if fault != 0 {
             return TriangleAnswer::Refused(fault, 0);
         }
-        if 21 < level {
+        if HIGHEST < level {
             return TriangleAnswer::Refused(1, 0);
         }
         if level < self.level {
@@ -144,7 +145,7 @@ impl Triangle {
         if fault != 0 {
             return TriangleAnswer::Refused(fault, 0);
         }
-        if 21 < level {
+        if HIGHEST < level {
             return TriangleAnswer::Refused(1, 0);
         }
         if level < self.level {

@@ -5,6 +5,7 @@ use mathlib.Core.Bool.{true, false}
 use Prim.Native.Nat.{ℕ, _-_, _≤_, _<_}
 use native.Mathlib.Omega.{arith}
 use lib.ListN.{length}
+use borrow.Author.Needs.{needs}
 use borrow.Author.Tests.{not-true, not-false}
 use Rattle.paper.specs.Outcome.{rows}
 use Rattle.paper.proofs.Scan.{scan-all}
@@ -22,6 +23,9 @@ Inv-loop levels xs ys zs kinds parent i₀ i = (i ≤ 8) × (family prism (eleme
 
 abbrev μ-loop : tie.MeasureT-loop
 μ-loop levels xs ys zs kinds parent i₀ i = 8 - i
+
+cast-if1 : tie.Need-cast-if1 Inv-loop μ-loop
+cast-if1 c = search needs
 
 returns : tie.Need-returns Inv-loop μ-loop
 unfolding prismTo
@@ -50,6 +54,9 @@ loop-holds c =
       family-start prism (lawful 21) (element (c .before .before .before .before .before .before .before .before .before .before .args .levels .now) (c .before .before .before .before .before .before .before .before .before .before .args .xs .now) (c .before .before .before .before .before .before .before .before .before .before .args .ys .now) (c .before .before .before .before .before .before .before .before .before .before .args .zs .now) (c .before .before .before .before .before .before .before .before .before .before .args .kinds .now)) (length (c .before .before .before .before .before .before .before .before .before .before .args .levels .now)) (omega arith) deep
           ∙ ap₂ (λ (f : Prism) (k : ℕ). areChildren prism f 0 (rows (element (c .before .before .before .before .before .before .before .before .before .before .args .levels .now) (c .before .before .before .before .before .before .before .before .before .before .args .xs .now) (c .before .before .before .before .before .before .before .before .before .before .args .ys .now) (c .before .before .before .before .before .before .before .before .before .before .args .zs .now) (c .before .before .before .before .before .before .before .before .before .before .args .kinds .now)) 0 k)) (sym above) (c .before .before .before .before .if1 .left),
     )
+
+cast-loop : tie.Need-cast-loop Inv-loop μ-loop
+cast-loop c = search needs
 
 cast-down : tie.Need-cast-down Inv-loop μ-loop
 unfolding prismTo
@@ -105,11 +112,13 @@ are-siblings-spec =
     (tie.spec
     Inv-loop
     μ-loop
+    cast-if1
     returns
     row-requires
     returns-2
     up-requires
     loop-holds
+    cast-loop
     cast-down
     down-requires
     row-requires-2
