@@ -11,7 +11,6 @@ ghost use Rattle.tree.specs.Calls;
 ghost use Rattle.prism.specs.Elements.{prism, prismOf, equalColumns, elements};
 
 mod family;
-pub mod rows;
 mod work;
 
 #[repr(C)]

@@ -2,7 +2,6 @@
 // the triangle's and the line's own, side by side; the two loops over the levels and the step across a face go in one.
 use crate::Prism;
 use crate::PrismAnswer;
-use crate::rows;
 use line::Line;
 use line::LineAnswer;
 use tree::HIGHEST;
@@ -126,7 +125,7 @@ impl Prism {
         ensures { λ r. ⌜ prismOf r ≡ prism .neighbour self face ⌝ }
     {
         let h = tree::side(self.level);
-        let s = rows::side_row(self.kind, face);
+        let s = rows::prism_face_row(self.kind, face);
         let x = tree::moved(self.x, s.x, h);
         if x == tree::GONE {
             return PrismAnswer::Refused(10, 0);
@@ -166,7 +165,7 @@ impl Prism {
         let mut sum = 0u64;
         let mut i = 0u8;
         while i < level {
-            let p = triangle::rows::place_of(x, y, kind);
+            let p = rows::slot_of(x, y, kind);
             sum += (4 * (z % 2) as u64 + p.number as u64) << (3 * i);
             x /= 2;
             y /= 2;
@@ -212,7 +211,7 @@ pub(crate) fn placed(level: u8, position: u64) -> Prism
     while 0 < left {
         left -= 1;
         let d = ((position >> (3 * left)) % 8) as u8;
-        let s = triangle::rows::child_row(kind, d % 4);
+        let s = rows::child_row(kind, d % 4);
         x = 2 * x + s.x as u32;
         y = 2 * y + s.y as u32;
         z = 2 * z + (d / 4) as u32;

@@ -22,11 +22,11 @@ use lib.ListN.{length, getD}
 use Rattle.paper.specs.Outcome.{Outcome, accepted, refused, refuse-when, fault-when, rows}
 use Rattle.tree.specs.Shape.{Shape}
 use Rattle.tree.specs.Anchors.{HIGHEST, side, offGrid, rounded, bitAt, moved, offEdge}
-use Rattle.triangle.specs.declared.rows.Step.{Step}
+use Rattle.rows.specs.declared.Step.{Step}
 use Rattle.triangle.specs.declared.Triangle.{Triangle}
 use Rattle.triangle.specs.declared.TriangleAnswer.{TriangleAnswer}
 use Rattle.triangle.specs.declared.TriangleAnswer.the-variants.{Is, Refused}
-use Rattle.triangle.specs.Rows.{step, childRow, parentKind, numberOf, faceRow}
+use Rattle.rows.specs.Rows.{step, childRow, parentKind, numberOf, faceRow}
 
 abbrev pub CHILDREN : ℕ
 CHILDREN = 4

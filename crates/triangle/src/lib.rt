@@ -12,7 +12,6 @@ ghost use Rattle.tree.specs.Calls;
 ghost use Rattle.triangle.specs.Elements.{triangle, triangleOf, equalColumns, elements, insideRoot};
 
 mod family;
-pub mod rows;
 mod work;
 
 #[repr(C)]

@@ -2,7 +2,6 @@
 use crate::Triangle;
 use crate::TriangleAnswer;
 use crate::outside;
-use crate::rows;
 use tree::HIGHEST;
 ghost use mathlib.Core.Path.{_≡_};
 ghost use Prim.Native.Nat.{_^_, _≤_, _<_};
@@ -64,7 +63,7 @@ impl Triangle {
         let mut sum = 0u64;
         let mut i = 0u8;
         while i < level {
-            let p = rows::place_of(x, y, kind);
+            let p = rows::slot_of(x, y, kind);
             sum += (p.number as u64) << (2 * i);
             x /= 2;
             y /= 2;
@@ -87,7 +86,7 @@ impl Triangle {
         ensures { λ r. ⌜ r ≡ triangle .parent self ⌝ }
     {
         let level = self.level - 1;
-        let p = rows::place_of(
+        let p = rows::slot_of(
             tree::bit(self.level, self.x),
             tree::bit(self.level, self.y),
             self.kind,
