@@ -153,7 +153,7 @@ gw_comparison gw_line_compare(gw_line e, gw_line f);
 
 /** 1 if the columns hold the 2 children of one parent, in order, else 0. Any other count, or none, is 0.
  *  Refuses: 11 unequal columns; then each in turn, place = its index: 1 level, 2 anchor. */
-gw_number_result gw_line_family(const uint8_t *level, size_t level_length, const uint32_t *x, size_t x_length);
+gw_number_result gw_line_family(const uint32_t *x, size_t x_length, const uint8_t *level, size_t level_length);
 
 /* ---- triangles */
 
@@ -195,8 +195,8 @@ gw_comparison gw_triangle_compare(gw_triangle e, gw_triangle f);
 
 /** 1 if the columns hold the 4 children of one parent, in order, else 0. Any other count, or none, is 0.
  *  Refuses: 11 unequal columns; then each in turn, place = its index: 1 level, 2 anchor, 3 type, 4 outside. */
-gw_number_result gw_triangle_family(const uint8_t *level, size_t level_length, const uint32_t *x, size_t x_length,
-                                    const uint32_t *y, size_t y_length, const uint8_t *kind, size_t kind_length);
+gw_number_result gw_triangle_family(const uint32_t *x, size_t x_length, const uint32_t *y, size_t y_length,
+                                    const uint8_t *level, size_t level_length, const uint8_t *kind, size_t kind_length);
 
 /* ---- prisms */
 
@@ -238,8 +238,8 @@ gw_comparison gw_prism_compare(gw_prism e, gw_prism f);
 
 /** 1 if the columns hold the 8 children of one parent, in order, else 0. Any other count, or none, is 0.
  *  Refuses: 11 unequal columns; then each in turn, place = its index: 1 level, 2 anchor, 3 type, 4 outside. */
-gw_number_result gw_prism_family(const uint8_t *level, size_t level_length, const uint32_t *x, size_t x_length,
-                                 const uint32_t *y, size_t y_length, const uint32_t *z, size_t z_length,
+gw_number_result gw_prism_family(const uint32_t *x, size_t x_length, const uint32_t *y, size_t y_length,
+                                 const uint32_t *z, size_t z_length, const uint8_t *level, size_t level_length,
                                  const uint8_t *kind, size_t kind_length);
 
 /* ---- corner points */

@@ -7,16 +7,12 @@
 --   lineTo L      lines as a shape, highest level L
 --   line          "highest level 21 for all three"
 --   lineOf        the outcome that a LineAnswer stands for
---   element i     entry i of the two lent columns
---   elements      all of them
 --
--- Assumes nothing.
+-- Not here: several in lent columns (`Columns.antt`). Assumes nothing.
 use mathlib.Core.Bool.{_&&_}
-use mathlib.Core.List.{List}
 use Prim.Native.Nat.{ℕ, suc, _+_, _-_, _*_}
 use lib.Dec.{ltb, eqb}
-use lib.ListN.{length, getD}
-use Rattle.paper.specs.Outcome.{Outcome, accepted, refused, refuse-when, fault-when, rows}
+use Rattle.paper.specs.Outcome.{Outcome, accepted, refused, refuse-when, fault-when}
 use Rattle.tree.specs.Shape.{Shape}
 use Rattle.tree.specs.Anchors.{HIGHEST, side, offGrid, rounded, bitAt, moved, offEdge}
 use Rattle.line.specs.declared.Line.{Line}
@@ -74,9 +70,3 @@ line = lineTo HIGHEST
 abbrev pub lineOf : LineAnswer → Outcome Line
 lineOf (Is e) = accepted e
 lineOf (Refused number place) = refused number place
-
-abbrev pub element : List ℕ → List ℕ → ℕ → Line
-element levels xs i = record { x = getD xs i 0; level = getD levels i 0 }
-
-abbrev pub elements : List ℕ → List ℕ → List Line
-elements levels xs = rows (element levels xs) 0 (length levels)

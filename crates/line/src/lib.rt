@@ -6,11 +6,10 @@ use paper::TruthAnswer;
 use tree::HIGHEST;
 ghost use mathlib.Core.Path.{_≡_};
 ghost use Prim.Native.Nat.{_<_};
-ghost use lib.Dec.{eqb};
-ghost use lib.ListN.{length};
 ghost use Rattle.paper.specs.Readings.{valueOf, truthOf, comparisonOf};
 ghost use Rattle.tree.specs.Calls;
-ghost use Rattle.line.specs.Elements.{line, lineOf, elements};
+ghost use Rattle.line.specs.Elements.{line, lineOf};
+ghost use Rattle.line.specs.Columns.{columns, family};
 
 mod family;
 mod work;
@@ -170,16 +169,16 @@ impl Line {
 
     // Whether the elements of the columns are all children of one parent, in order. Refused: 11, then 1, 2 at each element's
     // index.
-    pub fn family(levels: &[u8], xs: &[u32]) -> TruthAnswer
-        ensures { λ r. ⌜ truthOf r ≡ Calls.family line (eqb (length (now (levels .entry))) (length (now (xs .entry)))) (elements (now (levels .entry)) (now (xs .entry))) ⌝ }
+    pub fn family(xs: &[u32], levels: &[u8]) -> TruthAnswer
+        ensures { λ r. ⌜ truthOf r ≡ family (columns (now (xs .entry)) (now (levels .entry))) ⌝ }
     {
-        if levels.len() != xs.len() {
+        if xs.len() != levels.len() {
             return TruthAnswer::Refused(11, 0);
         }
-        let fault = family::first_fault(levels, xs);
+        let fault = family::first_fault(xs, levels);
         if fault.number != 0 {
             return TruthAnswer::Refused(fault.number, fault.place);
         }
-        TruthAnswer::Is(family::are_siblings(levels, xs))
+        TruthAnswer::Is(family::are_siblings(xs, levels))
     }
 }

@@ -10,18 +10,12 @@
 --   prismTo L            prisms as a shape, highest level L
 --   prism                "highest level 21 for all three"
 --   prismOf              the outcome that a PrismAnswer stands for
---   equalColumns         whether the five lent columns are equally long; Equal, that they are
---   element i            entry i of them
---   elements             all of them
 --
--- Assumes nothing.
-use mathlib.Core.Path.{_≡_}
-use mathlib.Core.Bool.{Bool, not, cond, _&&_, _||_}
-use mathlib.Core.List.{List}
+-- Not here: several in lent columns (`Columns.antt`). Assumes nothing.
+use mathlib.Core.Bool.{not, cond, _&&_, _||_}
 use Prim.Native.Nat.{ℕ, _+_, _-_, _*_, _/_, _%_}
 use lib.Dec.{ltb, eqb}
-use lib.ListN.{length, getD}
-use Rattle.paper.specs.Outcome.{Outcome, accepted, refused, mapped, fault-when, rows}
+use Rattle.paper.specs.Outcome.{Outcome, accepted, refused, mapped, fault-when}
 use Rattle.tree.specs.Shape.{Shape}
 use Rattle.tree.specs.Anchors.{HIGHEST, offGrid}
 use Rattle.line.specs.declared.Line.{Line}
@@ -98,21 +92,3 @@ prism = prismTo HIGHEST
 abbrev pub prismOf : PrismAnswer → Outcome Prism
 prismOf (Is e) = accepted e
 prismOf (Refused number place) = refused number place
-
-abbrev pub equalColumns : List ℕ → List ℕ → List ℕ → List ℕ → List ℕ → Bool
-equalColumns levels xs ys zs kinds =
-    eqb (length levels) (length xs)
-    && (eqb (length levels) (length ys) && (eqb (length levels) (length zs) && eqb (length levels) (length kinds)))
-
-pub record Equal (levels xs ys zs kinds : List ℕ) : Type 0 where
-  pub with-xs : length levels ≡ length xs
-  pub with-ys : length levels ≡ length ys
-  pub with-zs : length levels ≡ length zs
-  pub with-kinds : length levels ≡ length kinds
-
-abbrev pub element : List ℕ → List ℕ → List ℕ → List ℕ → List ℕ → ℕ → Prism
-element levels xs ys zs kinds i =
-    record { x = getD xs i 0; y = getD ys i 0; z = getD zs i 0; level = getD levels i 0; kind = getD kinds i 0 }
-
-abbrev pub elements : List ℕ → List ℕ → List ℕ → List ℕ → List ℕ → List Prism
-elements levels xs ys zs kinds = rows (element levels xs ys zs kinds) 0 (length levels)

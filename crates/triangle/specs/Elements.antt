@@ -7,19 +7,12 @@
 --   triangleTo L   triangles as a shape, highest level L
 --   triangle       "highest level 21 for all three"
 --   triangleOf     the outcome that a TriangleAnswer stands for
---   equalColumns   whether the four lent columns are equally long
---   Equal          that they are
---   element i      entry i of them
---   elements       all of them
 --
--- Assumes nothing.
-use mathlib.Core.Path.{_≡_}
+-- Not here: several in lent columns (`Columns.antt`). Assumes nothing.
 use mathlib.Core.Bool.{Bool, not, _&&_, _||_}
-use mathlib.Core.List.{List}
 use Prim.Native.Nat.{ℕ, zero, suc, _+_, _-_, _*_}
 use lib.Dec.{leb, ltb, eqb}
-use lib.ListN.{length, getD}
-use Rattle.paper.specs.Outcome.{Outcome, accepted, refused, refuse-when, fault-when, rows}
+use Rattle.paper.specs.Outcome.{Outcome, accepted, refused, refuse-when, fault-when}
 use Rattle.tree.specs.Shape.{Shape}
 use Rattle.tree.specs.Anchors.{HIGHEST, side, offGrid, rounded, bitAt, moved, offEdge}
 use Rattle.rows.specs.declared.Step.{Step}
@@ -114,19 +107,3 @@ triangle = triangleTo HIGHEST
 abbrev pub triangleOf : TriangleAnswer → Outcome Triangle
 triangleOf (Is e) = accepted e
 triangleOf (Refused number place) = refused number place
-
-abbrev pub equalColumns : List ℕ → List ℕ → List ℕ → List ℕ → Bool
-equalColumns levels xs ys kinds =
-    eqb (length levels) (length xs) && (eqb (length levels) (length ys) && eqb (length levels) (length kinds))
-
--- the same as facts
-pub record Equal (levels xs ys kinds : List ℕ) : Type 0 where
-  pub with-xs : length levels ≡ length xs
-  pub with-ys : length levels ≡ length ys
-  pub with-kinds : length levels ≡ length kinds
-
-abbrev pub element : List ℕ → List ℕ → List ℕ → List ℕ → ℕ → Triangle
-element levels xs ys kinds i = record { x = getD xs i 0; y = getD ys i 0; level = getD levels i 0; kind = getD kinds i 0 }
-
-abbrev pub elements : List ℕ → List ℕ → List ℕ → List ℕ → List Triangle
-elements levels xs ys kinds = rows (element levels xs ys kinds) 0 (length levels)

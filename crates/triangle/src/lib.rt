@@ -9,7 +9,8 @@ ghost use mathlib.Core.Bool.{not};
 ghost use Prim.Native.Nat.{_<_};
 ghost use Rattle.paper.specs.Readings.{valueOf, truthOf, comparisonOf};
 ghost use Rattle.tree.specs.Calls;
-ghost use Rattle.triangle.specs.Elements.{triangle, triangleOf, equalColumns, elements, insideRoot};
+ghost use Rattle.triangle.specs.Elements.{triangle, triangleOf, insideRoot};
+ghost use Rattle.triangle.specs.Columns.{columns, family};
 
 mod family;
 mod work;
@@ -184,22 +185,22 @@ impl Triangle {
 
     // Whether the elements of the columns are all children of one parent, in order. Refused: 11, then 1, 2, 3, 4 at each element's
     // index.
-    pub fn family(levels: &[u8], xs: &[u32], ys: &[u32], kinds: &[u8]) -> TruthAnswer
-        ensures { λ r. ⌜ truthOf r ≡ Calls.family triangle (equalColumns (now (levels .entry)) (now (xs .entry)) (now (ys .entry)) (now (kinds .entry))) (elements (now (levels .entry)) (now (xs .entry)) (now (ys .entry)) (now (kinds .entry))) ⌝ }
+    pub fn family(xs: &[u32], ys: &[u32], levels: &[u8], kinds: &[u8]) -> TruthAnswer
+        ensures { λ r. ⌜ truthOf r ≡ family (columns (now (xs .entry)) (now (ys .entry)) (now (levels .entry)) (now (kinds .entry))) ⌝ }
     {
-        if levels.len() != xs.len() {
+        if xs.len() != ys.len() {
             return TruthAnswer::Refused(11, 0);
         }
-        if levels.len() != ys.len() {
+        if xs.len() != levels.len() {
             return TruthAnswer::Refused(11, 0);
         }
-        if levels.len() != kinds.len() {
+        if xs.len() != kinds.len() {
             return TruthAnswer::Refused(11, 0);
         }
-        let fault = family::first_fault(levels, xs, ys, kinds);
+        let fault = family::first_fault(xs, ys, levels, kinds);
         if fault.number != 0 {
             return TruthAnswer::Refused(fault.number, fault.place);
         }
-        TruthAnswer::Is(family::are_siblings(levels, xs, ys, kinds))
+        TruthAnswer::Is(family::are_siblings(xs, ys, levels, kinds))
     }
 }
