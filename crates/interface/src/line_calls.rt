@@ -5,10 +5,9 @@ use crate::NumberResult;
 use crate::results;
 use line::Line;
 ghost use mathlib.Core.Path.{_≡_};
-ghost use lib.Dec.{eqb};
-ghost use lib.ListN.{length};
 ghost use Rattle.tree.specs.Calls;
-ghost use Rattle.line.specs.Elements.{line, elements};
+ghost use Rattle.line.specs.Elements.{line};
+ghost use Rattle.line.specs.Columns.{columns, family};
 ghost use Rattle.interface.specs.Results.{lineResult, numberResult, truthResult, compareResult};
 
 #[no_mangle]
@@ -75,8 +74,8 @@ pub extern "C" fn gw_line_compare(e: Line, f: Line) -> CompareResult
 }
 
 #[no_mangle]
-pub extern "C" fn gw_line_family(levels: &[u8], xs: &[u32]) -> NumberResult
-    ensures { λ r. ⌜ r ≡ truthResult (Calls.family line (eqb (length (now (levels .entry))) (length (now (xs .entry)))) (elements (now (levels .entry)) (now (xs .entry)))) ⌝ }
+pub extern "C" fn gw_line_family(xs: &[u32], levels: &[u8]) -> NumberResult
+    ensures { λ r. ⌜ r ≡ truthResult (family (columns (now (xs .entry)) (now (levels .entry)))) ⌝ }
 {
-    results::of_truth(Line::family(levels, xs))
+    results::of_truth(Line::family(xs, levels))
 }

@@ -3,9 +3,9 @@
 use mathlib.Core.Path.{_≡_, refl}
 use Prim.Native.Nat.{ℕ, _+_, _*_, _≤_, _<_}
 use native.Mathlib.Omega.{arith}
-use Rattle.tree.proofs.Cases.{below-2, below-3, below-4}
-use Rattle.triangle.specs.declared.rows.Step.{Step}
-use Rattle.triangle.specs.Rows.{step, childRow, parentKind, numberOf, faceRow}
+use Rattle.tree.proofs.Cases.{below-2, below-3, below-4, below-5}
+use Rattle.rows.specs.declared.Step.{Step}
+use Rattle.rows.specs.Rows.{step, childRow, parentKind, numberOf, faceRow}
 
 -- a statement about the two rows of four, entry by entry
 pub each-child : (P : ℕ → ℕ → Type 0) → P 0 0 → P 0 1 → P 0 2 → P 0 3 → P 1 0 → P 1 1 → P 1 2 → P 1 3 → (t i : ℕ) → t < 2 → i < 4 → P t i
@@ -16,6 +16,12 @@ each-child P a b c d e f g h t i kind small =
 pub each-face : (P : ℕ → ℕ → Type 0) → P 0 0 → P 0 1 → P 0 2 → P 1 0 → P 1 1 → P 1 2 → (t i : ℕ) → t < 2 → i < 3 → P t i
 each-face P a b c d e f t i kind small =
     below-2 (λ (k : ℕ). P k i) (below-3 (P 0) a b c i small) (below-3 (P 1) d e f i small) t kind
+
+-- a statement about the two rows of five, entry by entry
+pub each-prism-face : (P : ℕ → ℕ → Type 0) → P 0 0 → P 0 1 → P 0 2 → P 0 3 → P 0 4 → P 1 0 → P 1 1 → P 1 2 → P 1 3 → P 1 4
+    → (t i : ℕ) → t < 2 → i < 5 → P t i
+each-prism-face P a b c d e f g h i j t n kind small =
+    below-2 (λ (k : ℕ). P k n) (below-5 (P 0) a b c d e n small) (below-5 (P 1) f g h i j n small) t kind
 
 -- a statement about the eight steps
 pub each-step : (P : ℕ → ℕ → ℕ → Type 0) → P 0 0 0 → P 0 0 1 → P 0 1 0 → P 0 1 1 → P 1 0 0 → P 1 0 1 → P 1 1 0 → P 1 1 1
@@ -43,9 +49,9 @@ unfolding numberOf parentKind
 numberOf-child = each-child (λ (t i : ℕ). numberOf (childRow t i) ≡ i) refl refl refl refl refl refl refl refl
 
 -- ---- up and down again
-pub childRow-place : (x y t : ℕ) → x < 2 → y < 2 → t < 2 → childRow (parentKind (step x y t)) (numberOf (step x y t)) ≡ step x y t
+pub childRow-slot : (x y t : ℕ) → x < 2 → y < 2 → t < 2 → childRow (parentKind (step x y t)) (numberOf (step x y t)) ≡ step x y t
 unfolding numberOf parentKind
-childRow-place =
+childRow-slot =
     each-step (λ (x y t : ℕ). childRow (parentKind (step x y t)) (numberOf (step x y t)) ≡ step x y t) refl refl refl refl refl refl refl refl
 
 pub parentKind-lt : (x y t : ℕ) → x < 2 → y < 2 → t < 2 → parentKind (step x y t) < 2

@@ -6,10 +6,14 @@ use native.Mathlib.Nat.{mod-lt}
 use lib.Dec.{lit<}
 use lib.ListN.{getD}
 use borrow.Author.Needs.{needs}
-use Rattle.triangle.specs.Rows.{step, childRow}
-use Rattle.triangle.proofs.Tables.{each-child}
-use Rattle.triangle.proofs.rows.child_row.Statement.{statement}
-use Rattle.triangle.proofs.rows.child_row.Tie as tie
+use Rattle.rows.specs.Rows.{step, childRow}
+use Rattle.rows.proofs.Tables.{each-child}
+use Rattle.rows.proofs.child_row.Statement.{statement}
+use Rattle.rows.proofs.child_row.Tie as tie
+
+-- the code's table, in decimals
+abbrev entry : ℕ → ℕ → ℕ
+entry t i = getD (getD ((0 ∷ 4 ∷ 5 ∷ 6 ∷ []) ∷ (1 ∷ 2 ∷ 3 ∷ 7 ∷ []) ∷ []) t []) i 0
 
 mul-v : tie.Need-mul-v
 mul-v c = search needs
@@ -22,8 +26,7 @@ index-2-v c = search needs
 
 returns : tie.Need-returns
 returns c =
-    each-child
-    (λ (t i : ℕ). step (getD (getD ((0 ∷ 1 ∷ 5 ∷ 3 ∷ []) ∷ (4 ∷ 2 ∷ 6 ∷ 7 ∷ []) ∷ []) t []) i 0 % 2) (getD (getD ((0 ∷ 1 ∷ 5 ∷ 3 ∷ []) ∷ (4 ∷ 2 ∷ 6 ∷ 7 ∷ []) ∷ []) t []) i 0 / 2 % 2) (getD (getD ((0 ∷ 1 ∷ 5 ∷ 3 ∷ []) ∷ (4 ∷ 2 ∷ 6 ∷ 7 ∷ []) ∷ []) t []) i 0 / 4) ≡ childRow t i)
+    each-child (λ (t i : ℕ). step (entry t i / 4) (entry t i / 2 % 2) (entry t i % 2) ≡ childRow t i)
     refl refl refl refl refl refl refl refl
     (c .before .args .kind % 2) (c .before .args .number % 4) (mod-lt (c .before .args .kind) (lit< tt)) (mod-lt (c .before .args .number) (lit< tt))
 

@@ -6,10 +6,14 @@ use native.Mathlib.Nat.{mod-lt}
 use lib.Dec.{lit<}
 use lib.ListN.{getD}
 use borrow.Author.Needs.{needs}
-use Rattle.triangle.specs.Rows.{step, faceRow}
-use Rattle.triangle.proofs.Tables.{each-face}
-use Rattle.triangle.proofs.rows.face_row.Statement.{statement}
-use Rattle.triangle.proofs.rows.face_row.Tie as tie
+use Rattle.rows.specs.Rows.{step, faceRow}
+use Rattle.rows.proofs.Tables.{each-face}
+use Rattle.rows.proofs.face_row.Statement.{statement}
+use Rattle.rows.proofs.face_row.Tie as tie
+
+-- the code's table, in decimals
+abbrev entry : ℕ → ℕ → ℕ
+entry t i = getD (getD ((19 ∷ 11 ∷ 9 ∷ []) ∷ (12 ∷ 10 ∷ 2 ∷ []) ∷ []) t []) i 0
 
 mul-v : tie.Need-mul-v
 mul-v c = search needs
@@ -22,8 +26,7 @@ index-2-v c = search needs
 
 returns : tie.Need-returns
 returns c =
-    each-face
-    (λ (t i : ℕ). step (getD (getD ((22 ∷ 21 ∷ 17 ∷ []) ∷ (9 ∷ 5 ∷ 4 ∷ []) ∷ []) t []) i 0 % 4) (getD (getD ((22 ∷ 21 ∷ 17 ∷ []) ∷ (9 ∷ 5 ∷ 4 ∷ []) ∷ []) t []) i 0 / 4 % 4) (getD (getD ((22 ∷ 21 ∷ 17 ∷ []) ∷ (9 ∷ 5 ∷ 4 ∷ []) ∷ []) t []) i 0 / 16) ≡ faceRow t i)
+    each-face (λ (t i : ℕ). step (entry t i / 8) (entry t i / 2 % 4) (entry t i % 2) ≡ faceRow t i)
     refl refl refl refl refl refl
     (c .before .args .kind % 2) (c .before .args .face % 3) (mod-lt (c .before .args .kind) (lit< tt)) (mod-lt (c .before .args .face) (lit< tt))
 
