@@ -1,14 +1,13 @@
 // The calls on lines.
-use crate::CompareResult;
-use crate::LineResult;
-use crate::NumberResult;
-use crate::results;
+use results::CompareResult;
+use results::LineResult;
+use results::NumberResult;
 use line::Line;
 ghost use mathlib.Core.Path.{_≡_};
 ghost use Rattle.tree.specs.Calls;
 ghost use Rattle.line.specs.Elements.{line};
 ghost use Rattle.line.specs.Columns.{columns, family};
-ghost use Rattle.interface.specs.Results.{lineResult, numberResult, truthResult, compareResult};
+ghost use Rattle.results.specs.Results.{lineResult, numberResult, truthResult, compareResult};
 
 #[no_mangle]
 pub extern "C" fn gw_line_at(level: u8, position: u64) -> LineResult

@@ -1,14 +1,13 @@
 // The calls on prisms.
-use crate::CompareResult;
-use crate::NumberResult;
-use crate::PrismResult;
-use crate::results;
+use results::CompareResult;
+use results::NumberResult;
+use results::PrismResult;
 use prism::Prism;
 ghost use mathlib.Core.Path.{_≡_};
 ghost use Rattle.tree.specs.Calls;
 ghost use Rattle.prism.specs.Elements.{prism};
 ghost use Rattle.prism.specs.Columns.{columns, family};
-ghost use Rattle.interface.specs.Results.{prismResult, numberResult, truthResult, compareResult};
+ghost use Rattle.results.specs.Results.{prismResult, numberResult, truthResult, compareResult};
 
 #[no_mangle]
 pub extern "C" fn gw_prism_at(level: u8, position: u64) -> PrismResult

@@ -1,14 +1,13 @@
 // The calls on triangles.
-use crate::CompareResult;
-use crate::NumberResult;
-use crate::TriangleResult;
-use crate::results;
+use results::CompareResult;
+use results::NumberResult;
+use results::TriangleResult;
 use triangle::Triangle;
 ghost use mathlib.Core.Path.{_≡_};
 ghost use Rattle.tree.specs.Calls;
 ghost use Rattle.triangle.specs.Elements.{triangle};
 ghost use Rattle.triangle.specs.Columns.{columns, family};
-ghost use Rattle.interface.specs.Results.{triangleResult, numberResult, truthResult, compareResult};
+ghost use Rattle.results.specs.Results.{triangleResult, numberResult, truthResult, compareResult};
 
 #[no_mangle]
 pub extern "C" fn gw_triangle_at(level: u8, position: u64) -> TriangleResult

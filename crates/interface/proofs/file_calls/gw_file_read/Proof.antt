@@ -10,8 +10,8 @@ use Rattle.gridfile.specs.declared.GridAnswer.{GridAnswer}
 use Rattle.gridfile.specs.Reading.{reading}
 use Rattle.gridfile.specs.Readings.{Size, gridOf}
 use Rattle.gridfile.specs.Calls.{leavesIn, FileRead}
-use Rattle.interface.specs.declared.GridResult.{GridResult}
-use Rattle.interface.specs.Results.{gridResult, ReadResult}
+use Rattle.results.specs.declared.GridResult.{GridResult}
+use Rattle.results.specs.Results.{gridResult, ReadResult}
 use Rattle.interface.proofs.file_calls.gw_file_read.Statement.{statement}
 use Rattle.interface.proofs.file_calls.gw_file_read.Tie as tie
 

@@ -6,9 +6,9 @@ use borrow.Author.Needs.{needs}
 use Rattle.paper.specs.Outcome.{accepted}
 use Rattle.paper.specs.Readings.{truthOf}
 use Rattle.paper.specs.declared.TruthAnswer.{TruthAnswer}
-use Rattle.interface.specs.Results.{truthResult}
-use Rattle.interface.proofs.results.of_truth.Statement.{statement}
-use Rattle.interface.proofs.results.of_truth.Tie as tie
+use Rattle.results.specs.Results.{truthResult}
+use Rattle.results.proofs.of_truth.Statement.{statement}
+use Rattle.results.proofs.of_truth.Tie as tie
 
 enum-known-a : tie.Need-enum-known-a
 enum-known-a c = search needs

@@ -4,9 +4,9 @@ use Prim.Native.Nat.{ℕ}
 use borrow.Author.Needs.{needs}
 use Rattle.prism.specs.declared.PrismAnswer.{PrismAnswer}
 use Rattle.prism.specs.Elements as prisms
-use Rattle.interface.specs.Results.{prismResult}
-use Rattle.interface.proofs.results.of_prism.Statement.{statement}
-use Rattle.interface.proofs.results.of_prism.Tie as tie
+use Rattle.results.specs.Results.{prismResult}
+use Rattle.results.proofs.of_prism.Statement.{statement}
+use Rattle.results.proofs.of_prism.Tie as tie
 
 enum-known-a : tie.Need-enum-known-a
 enum-known-a c = search needs

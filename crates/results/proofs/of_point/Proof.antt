@@ -7,9 +7,9 @@ use lib.Ieee.{fin, ofBits}
 use borrow.Author.Needs.{needs}
 use Rattle.corners.specs.declared.PointAnswer.{PointAnswer}
 use Rattle.corners.specs.CornerPoints.{pointOf}
-use Rattle.interface.specs.Results.{pointResult}
-use Rattle.interface.proofs.results.of_point.Statement.{statement}
-use Rattle.interface.proofs.results.of_point.Tie as tie
+use Rattle.results.specs.Results.{pointResult}
+use Rattle.results.proofs.of_point.Statement.{statement}
+use Rattle.results.proofs.of_point.Tie as tie
 
 enum-known-a : tie.Need-enum-known-a
 enum-known-a c = search needs

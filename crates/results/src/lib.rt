@@ -1,11 +1,4 @@
-// From an answer to its result.
-use crate::CompareResult;
-use crate::GridResult;
-use crate::LineResult;
-use crate::NumberResult;
-use crate::PointResult;
-use crate::PrismResult;
-use crate::TriangleResult;
+// From an answer to what goes over the C interface: a refusal's word and the value beside it. `specs/Results.antt` says how.
 use corners::Point;
 use corners::PointAnswer;
 use gridfile::GridAnswer;
@@ -27,7 +20,51 @@ ghost use Rattle.line.specs.Elements as lines;
 ghost use Rattle.triangle.specs.Elements as triangles;
 ghost use Rattle.prism.specs.Elements as prisms;
 ghost use Rattle.gridfile.specs.Readings.{gridOf};
-ghost use Rattle.interface.specs.Results.{lineResult, triangleResult, prismResult, numberResult, truthResult, compareResult, passResult, gridResult, pointResult};
+ghost use Rattle.results.specs.Results.{lineResult, triangleResult, prismResult, numberResult, truthResult, compareResult, passResult, gridResult, pointResult};
+
+#[repr(C)]
+pub struct LineResult {
+    pub refusal: u64,
+    pub value: Line,
+}
+
+#[repr(C)]
+pub struct TriangleResult {
+    pub refusal: u64,
+    pub value: Triangle,
+}
+
+#[repr(C)]
+pub struct PrismResult {
+    pub refusal: u64,
+    pub value: Prism,
+}
+
+#[repr(C)]
+pub struct NumberResult {
+    pub refusal: u64,
+    pub value: u64,
+}
+
+#[repr(C)]
+pub struct CompareResult {
+    pub refusal: u64,
+    pub value: i32,
+}
+
+// A grid that was read: its roots and the number of its leaves.
+#[repr(C)]
+pub struct GridResult {
+    pub refusal: u64,
+    pub roots: u64,
+    pub leaves: u64,
+}
+
+#[repr(C)]
+pub struct PointResult {
+    pub refusal: u64,
+    pub value: Point,
+}
 
 // The word of a refusal.
 fn word(number: u8, place: u64) -> u64
@@ -36,7 +73,7 @@ fn word(number: u8, place: u64) -> u64
     place % 72057594037927936 * 256 + number as u64
 }
 
-pub(crate) fn of_line(a: LineAnswer) -> LineResult
+pub fn of_line(a: LineAnswer) -> LineResult
     ensures { λ r. ⌜ r ≡ lineResult (lines.lineOf a) ⌝ }
 {
     match a {
@@ -51,7 +88,7 @@ pub(crate) fn of_line(a: LineAnswer) -> LineResult
     }
 }
 
-pub(crate) fn of_triangle(a: TriangleAnswer) -> TriangleResult
+pub fn of_triangle(a: TriangleAnswer) -> TriangleResult
     ensures { λ r. ⌜ r ≡ triangleResult (triangles.triangleOf a) ⌝ }
 {
     match a {
@@ -71,7 +108,7 @@ pub(crate) fn of_triangle(a: TriangleAnswer) -> TriangleResult
     }
 }
 
-pub(crate) fn of_prism(a: PrismAnswer) -> PrismResult
+pub fn of_prism(a: PrismAnswer) -> PrismResult
     ensures { λ r. ⌜ r ≡ prismResult (prisms.prismOf a) ⌝ }
 {
     match a {
@@ -92,7 +129,7 @@ pub(crate) fn of_prism(a: PrismAnswer) -> PrismResult
     }
 }
 
-pub(crate) fn of_number(a: NumberAnswer) -> NumberResult
+pub fn of_number(a: NumberAnswer) -> NumberResult
     ensures { λ r. ⌜ r ≡ numberResult (valueOf a) ⌝ }
 {
     match a {
@@ -107,7 +144,7 @@ pub(crate) fn of_number(a: NumberAnswer) -> NumberResult
     }
 }
 
-pub(crate) fn of_truth(a: TruthAnswer) -> NumberResult
+pub fn of_truth(a: TruthAnswer) -> NumberResult
     ensures { λ r. ⌜ r ≡ truthResult (truthOf a) ⌝ }
 {
     match a {
@@ -130,7 +167,7 @@ pub(crate) fn of_truth(a: TruthAnswer) -> NumberResult
     }
 }
 
-pub(crate) fn of_comparison(a: CompareAnswer) -> CompareResult
+pub fn of_comparison(a: CompareAnswer) -> CompareResult
     ensures { λ r. ⌜ r ≡ compareResult (comparisonOf a) ⌝ }
 {
     match a {
@@ -153,7 +190,7 @@ pub(crate) fn of_comparison(a: CompareAnswer) -> CompareResult
     }
 }
 
-pub(crate) fn of_pass(a: PassAnswer) -> u64
+pub fn of_pass(a: PassAnswer) -> u64
     ensures { λ r. ⌜ r ≡ passResult (passOf a) ⌝ }
 {
     match a {
@@ -162,7 +199,7 @@ pub(crate) fn of_pass(a: PassAnswer) -> u64
     }
 }
 
-pub(crate) fn of_grid(a: GridAnswer) -> GridResult
+pub fn of_grid(a: GridAnswer) -> GridResult
     ensures { λ r. ⌜ r ≡ gridResult (gridOf a) ⌝ }
 {
     match a {
@@ -179,7 +216,7 @@ pub(crate) fn of_grid(a: GridAnswer) -> GridResult
     }
 }
 
-pub(crate) fn of_point(a: PointAnswer) -> PointResult
+pub fn of_point(a: PointAnswer) -> PointResult
     ensures { λ r. ⌜ r ≡ pointResult (pointOf a) ⌝ }
 {
     match a {

@@ -4,9 +4,9 @@ use Prim.Native.Nat.{ℕ}
 use borrow.Author.Needs.{needs}
 use Rattle.line.specs.declared.LineAnswer.{LineAnswer}
 use Rattle.line.specs.Elements as lines
-use Rattle.interface.specs.Results.{lineResult}
-use Rattle.interface.proofs.results.of_line.Statement.{statement}
-use Rattle.interface.proofs.results.of_line.Tie as tie
+use Rattle.results.specs.Results.{lineResult}
+use Rattle.results.proofs.of_line.Statement.{statement}
+use Rattle.results.proofs.of_line.Tie as tie
 
 enum-known-a : tie.Need-enum-known-a
 enum-known-a c = search needs

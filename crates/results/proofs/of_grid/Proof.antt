@@ -4,9 +4,9 @@ use Prim.Native.Nat.{ℕ}
 use borrow.Author.Needs.{needs}
 use Rattle.gridfile.specs.Readings.{gridOf}
 use Rattle.gridfile.specs.declared.GridAnswer.{GridAnswer}
-use Rattle.interface.specs.Results.{gridResult}
-use Rattle.interface.proofs.results.of_grid.Statement.{statement}
-use Rattle.interface.proofs.results.of_grid.Tie as tie
+use Rattle.results.specs.Results.{gridResult}
+use Rattle.results.proofs.of_grid.Statement.{statement}
+use Rattle.results.proofs.of_grid.Tie as tie
 
 enum-known-a : tie.Need-enum-known-a
 enum-known-a c = search needs

@@ -5,9 +5,9 @@ use lib.IntN.{pos}
 use borrow.Author.Needs.{needs}
 use Rattle.paper.specs.Readings.{comparisonOf}
 use Rattle.paper.specs.declared.CompareAnswer.{CompareAnswer}
-use Rattle.interface.specs.Results.{compareResult}
-use Rattle.interface.proofs.results.of_comparison.Statement.{statement}
-use Rattle.interface.proofs.results.of_comparison.Tie as tie
+use Rattle.results.specs.Results.{compareResult}
+use Rattle.results.proofs.of_comparison.Statement.{statement}
+use Rattle.results.proofs.of_comparison.Tie as tie
 
 enum-told : tie.Need-enum-told
 enum-told c = search needs
@@ -40,8 +40,8 @@ returns-4 : tie.Need-returns-4
 unfolding compareResult
 returns-4 c = ap (λ (w : ℕ). record { refusal = w; value = pos 0 }) (c .word .ensures) ∙ ap (λ (a : CompareAnswer). compareResult (comparisonOf a)) (sym (c .before .before .a .given .1))
 
-pub of-order-spec : {M : Type 1} → statement M
-of-order-spec =
+pub of-comparison-spec : {M : Type 1} → statement M
+of-comparison-spec =
     tie.close
     (tie.spec
     enum-told

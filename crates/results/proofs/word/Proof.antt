@@ -1,8 +1,8 @@
 -- `word` meets its contract: a place below 2^56 times 256 leaves room for the number. Assumes nothing.
 use mathlib.Core.Path.{refl}
 use borrow.Author.Needs.{needs}
-use Rattle.interface.proofs.results.word.Statement.{statement}
-use Rattle.interface.proofs.results.word.Tie as tie
+use Rattle.results.proofs.word.Statement.{statement}
+use Rattle.results.proofs.word.Tie as tie
 
 mul-result : tie.Need-mul-result
 mul-result c = search needs

@@ -4,9 +4,9 @@ use Prim.Native.Nat.{ℕ}
 use borrow.Author.Needs.{needs}
 use Rattle.triangle.specs.declared.TriangleAnswer.{TriangleAnswer}
 use Rattle.triangle.specs.Elements as triangles
-use Rattle.interface.specs.Results.{triangleResult}
-use Rattle.interface.proofs.results.of_triangle.Statement.{statement}
-use Rattle.interface.proofs.results.of_triangle.Tie as tie
+use Rattle.results.specs.Results.{triangleResult}
+use Rattle.results.proofs.of_triangle.Statement.{statement}
+use Rattle.results.proofs.of_triangle.Tie as tie
 
 enum-known-a : tie.Need-enum-known-a
 enum-known-a c = search needs

@@ -4,9 +4,9 @@ use Prim.Native.Nat.{ℕ}
 use borrow.Author.Needs.{needs}
 use Rattle.paper.specs.Readings.{valueOf}
 use Rattle.paper.specs.declared.NumberAnswer.{NumberAnswer}
-use Rattle.interface.specs.Results.{numberResult}
-use Rattle.interface.proofs.results.of_number.Statement.{statement}
-use Rattle.interface.proofs.results.of_number.Tie as tie
+use Rattle.results.specs.Results.{numberResult}
+use Rattle.results.proofs.of_number.Statement.{statement}
+use Rattle.results.proofs.of_number.Tie as tie
 
 enum-known-a : tie.Need-enum-known-a
 enum-known-a c = search needs

@@ -3,9 +3,9 @@ use mathlib.Core.Path.{ap, _∙_, sym}
 use borrow.Author.Needs.{needs}
 use Rattle.paper.specs.declared.PassAnswer.{PassAnswer}
 use Rattle.paper.specs.Readings.{passOf}
-use Rattle.interface.specs.Results.{passResult}
-use Rattle.interface.proofs.results.of_pass.Statement.{statement}
-use Rattle.interface.proofs.results.of_pass.Tie as tie
+use Rattle.results.specs.Results.{passResult}
+use Rattle.results.proofs.of_pass.Statement.{statement}
+use Rattle.results.proofs.of_pass.Tie as tie
 
 enum-told : tie.Need-enum-told
 enum-told c = search needs
