@@ -60,8 +60,10 @@ loop-less c = omega arith
 
 loop-again : tie.Need-loop-again Inv-loop μ-loop
 loop-again c =
-    let a = c .before .before .before .before .before .before .before .before .before .args in
-    let at = c .before .before .before .before .before .before .loop in
+    let at-loop = c .before .before .before .before .before .before in
+    let start = at-loop .before .before .before in
+    let a = start .args in
+    let at = at-loop .loop in
     let asked = (c .before .before .near-levels) in (
       omega arith,
       λ positions. at .inv .1 positions

@@ -18,8 +18,10 @@ returns c =
 
 write-requires : tie.Need-write-requires
 write-requires c κs =
-    let a = c .before .before .before .before .before .before .before .before .args in
-    fit-all (a .at) (a .count) (a .position) (columns (a .roots .now) (a .levels .now) (a .positions .now)) (sym (c .before .before .before .before .fits2 .ensures) ∙ not-false (c .before .before .before .before .fits2 .result) (c .before .before .before .if1 .left))
+    let at-fits2 = c .before .before .before .before in
+    let start = at-fits2 .before .before .before .before in
+    let a = start .args in
+    fit-all (a .at) (a .count) (a .position) (columns (a .roots .now) (a .levels .now) (a .positions .now)) (sym (at-fits2 .fits2 .ensures) ∙ not-false (at-fits2 .fits2 .result) (c .before .before .before .if1 .left))
 
 same-length : tie.Need-same-length
 same-length c = search needs
@@ -32,9 +34,13 @@ same-length-3 c = search needs
 
 returns-2 : tie.Need-returns-2
 returns-2 c =
-    let a = c .before .before .before .before .before .before .before .before .before .before .before .before .before .before .before .args in
+    let at-write = c .before .before .before .before .before .before in
+    let at-if1 = at-write .before .before .before .before in
+    let at-fits2 = at-if1 .before in
+    let start = at-fits2 .before .before .before .before in
+    let a = start .args in
     laid-some (a .at) (a .count) (a .position) (columns (a .roots .now) (a .levels .now) (a .positions .now)) (a .root) (a .level) _
-    (sym (c .before .before .before .before .before .before .before .before .before .before .before .fits2 .ensures) ∙ not-false (c .before .before .before .before .before .before .before .before .before .before .before .fits2 .result) (c .before .before .before .before .before .before .before .before .before .before .if1 .left)) (c .before .before .before .before .before .before .write .ensures)
+    (sym (at-fits2 .fits2 .ensures) ∙ not-false (at-fits2 .fits2 .result) (at-if1 .if1 .left)) (at-write .write .ensures)
 
 pub lay-spec : {M : Type 1} → statement M
 lay-spec =

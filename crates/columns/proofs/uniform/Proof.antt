@@ -72,10 +72,13 @@ shl-count c = omega (arith, (c .before .if3 .left))
 
 returns-5 : tie.Need-returns-5
 returns-5 c =
-    let a = c .before .before .before .before .before .before .before .before .before .before .args in
+    let at-equal-lengths = c .before .before .before .before in
+    let at-out-of-range = at-equal-lengths .before .before in
+    let start = at-out-of-range .before .before .before .before in
+    let a = start .args in
     let m = columns (a .roots .now) (a .levels .now) (a .positions .now) in
-    let in-range = sym (c .before .before .before .before .before .before .out-of-range .ensures) ∙ c .before .before .before .before .before .if1 .left in
-    let equal = sym (c .before .before .before .before .equal-lengths .ensures) ∙ not-false (c .before .before .before .before .equal-lengths .result) (c .before .before .before .if2 .left) in
+    let in-range = sym (at-out-of-range .out-of-range .ensures) ∙ c .before .before .before .before .before .if1 .left in
+    let equal = sym (at-equal-lengths .equal-lengths .ensures) ∙ not-false (at-equal-lengths .equal-lengths .result) (c .before .before .before .if2 .left) in
     let few = few-enough (a .k) (a .level) 1048576 (c .before .if4 .left) in
     let exact = count-exact (a .k) (a .level) few in
     let short : length (a .roots .now) < (a .k) * 8 ^ (a .level) = rw (sym exact) (c .if5 .taken) in
@@ -87,12 +90,15 @@ mul-fill c = search needs
 
 fill-requires : tie.Need-fill-requires
 fill-requires c κs =
-    let a = c .before .before .before .before .before .before .before .before .before .before .before .before .before .args in
+    let at-if2 = c .before .before .before .before .before .before in
+    let at-equal-lengths = at-if2 .before in
+    let start = at-equal-lengths .before .before .before .before .before .before in
+    let a = start .args in
     let shifted = leaves-shifted (a .k) (a .level) in
     let few = few-enough (a .k) (a .level) 1048576 (c .before .before .before .before .if4 .left) in
     let exact = count-exact (a .k) (a .level) few in
     let room : (a .k) * 8 ^ (a .level) ≤ length (a .roots .now) = rw (sym exact) (c .before .before .before .if5 .left) in
-    let test = sym (c .before .before .before .before .before .before .before .equal-lengths .ensures) ∙ not-false (c .before .before .before .before .before .before .before .equal-lengths .result) (c .before .before .before .before .before .before .if2 .left) in
+    let test = sym (at-equal-lengths .equal-lengths .ensures) ∙ not-false (at-equal-lengths .equal-lengths .result) (at-if2 .if2 .left) in
     let equal = and-eq-true-iff (eqb (length (a .roots .now)) (length (a .levels .now))) (eqb (length (a .roots .now)) (length (a .positions .now))) .0 test in
     let same-levels = eqb-true (length (a .roots .now)) (length (a .levels .now)) (equal .0) in
     let same-positions = eqb-true (length (a .roots .now)) (length (a .positions .now)) (equal .1) in (
@@ -111,7 +117,9 @@ same-length-3 c = search needs
 
 returns-6 : tie.Need-returns-6
 returns-6 c =
-    let at-tests = c .before .before .before .before .before .before .before .before .before .before in
+    let at-fill = c .before .before .before .before .before .before in
+    let at-before = at-fill .before .before .before in
+    let at-tests = at-before .before in
     let a = at-tests .before .before .before .before .before .before .before .before .before .before .args in
     let m = columns (a .roots .now) (a .levels .now) (a .positions .now) in
     let in-range = sym (at-tests .before .before .before .before .before .before .out-of-range .ensures) ∙ at-tests .before .before .before .before .before .if1 .left in
@@ -119,7 +127,7 @@ returns-6 c =
     let few = few-enough (a .k) (a .level) 1048576 (at-tests .before .if4 .left) in
     let exact = count-exact (a .k) (a .level) few in
     let room : (a .k) * 8 ^ (a .level) ≤ length (a .roots .now) = rw (sym exact) (at-tests .if5 .left) in
-    started (a .k) (a .level) m _ _ exact (c .before .before .before .before .before .before .fill .ensures)
+    started (a .k) (a .level) m _ _ exact (at-fill .fill .ensures)
     (fits (a .k) (a .level) m in-range equal (at-tests .before .before .if3 .left) few room)
 
 pub uniform-spec : {M : Type 1} → statement M

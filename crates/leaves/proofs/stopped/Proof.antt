@@ -31,25 +31,30 @@ leaf-fault-requires c κs = search needs
 
 returns : tie.Need-returns
 returns c =
-    let a = c .before .before .before .before .before .before .before .before .args in
-    let some = (c .before .before .before .before .before .before .before .before .pre .1 .1 .1 .1) (c .before .before .before .before .if1 .taken) in
+    let at-if1 = c .before .before .before .before in
+    let start = at-if1 .before .before .before .before in
+    let a = start .args in
+    let some = (start .pre .1 .1 .1 .1) (at-if1 .if1 .taken) in
     fault-taken (c .leaf-fault .result) (a .i) passed (λ none. some (sym (c .leaf-fault .ensures) ∙ none))
     ∙ ap (λ (j : ℕ). refused j (a .i)) (c .leaf-fault .ensures)
-    ∙ sym (walk-found (2 ^ (a .bits)) (a .highest) (a .k) passed (leafAt (columns (a .roots .now) (a .levels .now) (a .positions .now))) (length (a .roots .now)) (a .i) (spotOf (a .at)) (c .before .before .before .before .if1 .taken) some)
+    ∙ sym (walk-found (2 ^ (a .bits)) (a .highest) (a .k) passed (leafAt (columns (a .roots .now) (a .levels .now) (a .positions .now))) (length (a .roots .now)) (a .i) (spotOf (a .at)) (at-if1 .if1 .taken) some)
 
 returns-2 : tie.Need-returns-2
 returns-2 c =
-    let a = c .before .before .before .before .before .before .args in
+    let start = c .before .before .before .before .before .before in
+    let a = start .args in
     sym (walk-short-root (2 ^ (a .bits)) (a .highest) (a .k) passed (leafAt (columns (a .roots .now) (a .levels .now) (a .positions .now))) (length (a .roots .now)) (a .i) (spotOf (a .at)) (c .before .before .if1 .left) (c .if2 .taken))
 
 returns-3 : tie.Need-returns-3
 returns-3 c =
-    let a = c .before .before .before .before .before .before .before .before .args in
+    let start = c .before .before .before .before .before .before .before .before in
+    let a = start .args in
     sym (walk-short-cell (2 ^ (a .bits)) (a .highest) (a .k) passed (leafAt (columns (a .roots .now) (a .levels .now) (a .positions .now))) (length (a .roots .now)) (a .i) (spotOf (a .at)) (c .before .before .before .before .if1 .left) (c .before .before .if2 .left) (c .if3 .taken))
 
 returns-4 : tie.Need-returns-4
 returns-4 c =
-    let a = c .before .before .before .before .before .before .before .before .args in
+    let start = c .before .before .before .before .before .before .before .before in
+    let a = start .args in
     sym (walk-full (2 ^ (a .bits)) (a .highest) (a .k) passed (leafAt (columns (a .roots .now) (a .levels .now) (a .positions .now))) (length (a .roots .now)) (a .i) (spotOf (a .at)) (c .before .before .before .before .if1 .left) (c .before .before .if2 .left) (c .if3 .left))
 
 pub stopped-spec : {M : Type 1} → statement M

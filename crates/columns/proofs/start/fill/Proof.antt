@@ -32,11 +32,14 @@ same-length-3 c = search needs
 
 returns : tie.Need-returns
 returns c =
-    let a = c .before .before .before .before .before .before .before .before .before .before .before .before .before .before .before .args in
-    let exact = count-is (a .bits) (a .k) (c .before .before .before .before .before .before .before .before .before .before .before .before .before .before .before .pre .1 .0) in
+    let at-in-levels = c .before .before .before .before .before .before in
+    let at-fill-roots = at-in-levels .before .before .before .before in
+    let start = at-fill-roots .before .before .before .before .before in
+    let a = start .args in
+    let exact = count-is (a .bits) (a .k) (start .pre .1 .0) in
     record {
-      in-roots = (c .before .before .before .before .before .before .before .before .before .before .fill-roots .ensures);
-      in-levels = (c .before .before .before .before .before .before .in-levels .ensures) ∙ from-front (λ i. (a .level)) (a .levels .now) ((a .k) * 2 ^ (a .bits) % 2 ^ 64) (subst⁻¹ (λ (m : ℕ). m ≤ length (a .levels .now)) exact (c .before .before .before .before .before .before .before .before .before .before .before .before .before .before .before .pre .1 .1 .in-levels)) ∙ ap (λ (m : ℕ). written (rows (λ i. (a .level)) 0 m) (a .levels .now)) exact;
+      in-roots = (at-fill-roots .fill-roots .ensures);
+      in-levels = (at-in-levels .in-levels .ensures) ∙ from-front (λ i. (a .level)) (a .levels .now) ((a .k) * 2 ^ (a .bits) % 2 ^ 64) (subst⁻¹ (λ (m : ℕ). m ≤ length (a .levels .now)) exact (start .pre .1 .1 .in-levels)) ∙ ap (λ (m : ℕ). written (rows (λ i. (a .level)) 0 m) (a .levels .now)) exact;
       in-positions = (c .before .before .fill-positions .ensures) ∙ ap (λ (m : ℕ). written (rows (λ i. i % 2 ^ (a .bits)) 0 m) (a .positions .now)) exact;
     }
 

@@ -32,8 +32,9 @@ mul-positions c = omega (arith, (c .before .before .pre .1 .0))
 
 slice-write-positions : tie.Need-slice-write-positions Inv-loop μ-loop
 slice-write-positions c =
-    let long = ap length (c .before .loop .inv .1) ∙ front-length (λ j. j % 2 ^ (c .before .before .args .bits)) (c .before .before .args .positions .now) (c .before .loop .leaf) (omega (arith, (c .before .before .pre .1 .1))) in
-    omega (arith, (c .before .before .pre .1 .1))
+    let start = c .before .before in
+    let long = ap length (c .before .loop .inv .1) ∙ front-length (λ j. j % 2 ^ (start .args .bits)) (start .args .positions .now) (c .before .loop .leaf) (omega (arith, (start .pre .1 .1))) in
+    omega (arith, (start .pre .1 .1))
 
 add-leaf : tie.Need-add-leaf Inv-loop μ-loop
 add-leaf c = omega (arith, (c .before .before .pre .1 .0))
@@ -43,11 +44,15 @@ loop-less c = omega arith
 
 loop-again : tie.Need-loop-again Inv-loop μ-loop
 loop-again c =
-    let a = c .before .before .args in
-    (omega arith, ap₂ (λ (l : List ℕ) (m : ℕ). set l (c .before .loop .leaf) ((c .before .loop .leaf) % m)) (c .before .loop .inv .1) (each-is (a .bits) (c .before .before .pre .0)) ∙ front-more (λ j. j % 2 ^ (a .bits)) (a .positions .now) (c .before .loop .leaf) (omega (arith, (c .before .before .pre .1 .1))))
+    let at-loop = c .before in
+    let start = at-loop .before in
+    let a = start .args in
+    (omega arith, ap₂ (λ (l : List ℕ) (m : ℕ). set l (at-loop .loop .leaf) ((at-loop .loop .leaf) % m)) (at-loop .loop .inv .1) (each-is (a .bits) (start .pre .0)) ∙ front-more (λ j. j % 2 ^ (a .bits)) (a .positions .now) (at-loop .loop .leaf) (omega (arith, (start .pre .1 .1))))
 
 same-length : tie.Need-same-length Inv-loop μ-loop
-same-length c = ap length (c .before .loop .inv .1) ∙ front-length (λ j. j % 2 ^ (c .before .before .args .bits)) (c .before .before .args .positions .now) (c .before .loop .leaf) (omega (arith, (c .before .before .pre .1 .1)))
+same-length c =
+    let start = c .before .before in
+    ap length (c .before .loop .inv .1) ∙ front-length (λ j. j % 2 ^ (start .args .bits)) (start .args .positions .now) (c .before .loop .leaf) (omega (arith, (start .pre .1 .1)))
 
 returns : tie.Need-returns Inv-loop μ-loop
 returns c =

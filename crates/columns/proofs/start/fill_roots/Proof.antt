@@ -35,13 +35,15 @@ shl-in-roots-2 c = (c .before .before .before .pre .0)
 
 in-roots-requires : tie.Need-in-roots-requires Inv-loop μ-loop
 in-roots-requires c κs =
-    let a = c .before .before .before .before .args in
-    let inside : (c .before .before .loop .r) + 1 ≤ (a .k) = omega arith in
-    let least = start-le (a .bits) (a .k) (c .before .before .loop .r) (c .before .before .before .before .pre .1 .0) (omega arith) in
-    let from = start-is (a .bits) (a .k) (c .before .before .loop .r) (c .before .before .before .before .pre .1 .0) (omega arith) in
-    let each = each-is (a .bits) (c .before .before .before .before .pre .0) in
-    let long = ap length (c .before .before .loop .inv .1) ∙ front-length (λ i. i / 2 ^ (a .bits)) (a .roots .now) ((c .before .before .loop .r) * 2 ^ (a .bits)) (omega (arith, (c .before .before .before .before .pre .1 .1))) in
-    omega (arith, (c .before .before .before .before .pre .1 .1))
+    let at-loop = c .before .before in
+    let start = at-loop .before .before in
+    let a = start .args in
+    let inside : (at-loop .loop .r) + 1 ≤ (a .k) = omega arith in
+    let least = start-le (a .bits) (a .k) (at-loop .loop .r) (start .pre .1 .0) (omega arith) in
+    let from = start-is (a .bits) (a .k) (at-loop .loop .r) (start .pre .1 .0) (omega arith) in
+    let each = each-is (a .bits) (start .pre .0) in
+    let long = ap length (at-loop .loop .inv .1) ∙ front-length (λ i. i / 2 ^ (a .bits)) (a .roots .now) ((at-loop .loop .r) * 2 ^ (a .bits)) (omega (arith, (start .pre .1 .1))) in
+    omega (arith, (start .pre .1 .1))
 
 add-r : tie.Need-add-r Inv-loop μ-loop
 add-r c = omega (arith, (c .before .before .before .before .before .before .before .fits .k))
@@ -51,20 +53,24 @@ loop-less c = omega arith
 
 loop-again : tie.Need-loop-again Inv-loop μ-loop
 loop-again c =
-    let a = c .before .before .before .before .before .before .before .args in
-    let inside : (c .before .before .before .before .before .loop .r) + 1 ≤ (a .k) = omega arith in (
+    let at-loop = c .before .before .before .before .before in
+    let start = at-loop .before .before in
+    let a = start .args in
+    let inside : (at-loop .loop .r) + 1 ≤ (a .k) = omega arith in (
       inside,
       (c .before .before .in-roots .ensures)
-          ∙ ap₂ (λ (i m : ℕ). sets (c .before .before .before .before .before .loop .roots) i (rows (λ j. (c .before .before .before .before .before .loop .r)) 0 m)) (start-is (a .bits) (a .k) (c .before .before .before .before .before .loop .r) (c .before .before .before .before .before .before .before .pre .1 .0) (omega arith)) (each-is (a .bits) (c .before .before .before .before .before .before .before .pre .0))
-          ∙ ap (λ (l : List ℕ). sets l ((c .before .before .before .before .before .loop .r) * 2 ^ (a .bits)) (rows (λ j. (c .before .before .before .before .before .loop .r)) 0 (2 ^ (a .bits)))) (c .before .before .before .before .before .loop .inv .1)
-          ∙ root-more (a .bits) (a .k) (c .before .before .before .before .before .loop .r) (c .before .before .before .before .before .before .before .pre .1 .0) (omega arith) (a .roots .now) (c .before .before .before .before .before .before .before .pre .1 .1),
+          ∙ ap₂ (λ (i m : ℕ). sets (at-loop .loop .roots) i (rows (λ j. (at-loop .loop .r)) 0 m)) (start-is (a .bits) (a .k) (at-loop .loop .r) (start .pre .1 .0) (omega arith)) (each-is (a .bits) (start .pre .0))
+          ∙ ap (λ (l : List ℕ). sets l ((at-loop .loop .r) * 2 ^ (a .bits)) (rows (λ j. (at-loop .loop .r)) 0 (2 ^ (a .bits)))) (at-loop .loop .inv .1)
+          ∙ root-more (a .bits) (a .k) (at-loop .loop .r) (start .pre .1 .0) (omega arith) (a .roots .now) (start .pre .1 .1),
     )
 
 same-length : tie.Need-same-length Inv-loop μ-loop
 same-length c =
-    let a = c .before .before .before .args in
-    let all : (c .before .loop .r) ≡ (a .k) = omega arith in
-    ap length (c .before .loop .inv .1) ∙ front-length (λ i. i / 2 ^ (a .bits)) (a .roots .now) ((c .before .loop .r) * 2 ^ (a .bits)) (rw all (c .before .before .before .pre .1 .1))
+    let at-loop = c .before in
+    let start = at-loop .before .before in
+    let a = start .args in
+    let all : (at-loop .loop .r) ≡ (a .k) = omega arith in
+    ap length (at-loop .loop .inv .1) ∙ front-length (λ i. i / 2 ^ (a .bits)) (a .roots .now) ((at-loop .loop .r) * 2 ^ (a .bits)) (rw all (start .pre .1 .1))
 
 returns : tie.Need-returns Inv-loop μ-loop
 returns c =

@@ -21,9 +21,10 @@ within-requires c κs = search needs
 
 returns-2 : tie.Need-returns-2
 returns-2 c =
-    let a = c .before .before .before .args in
+    let start = c .before .before .before in
+    let a = start .args in
     simp (
-      le-leb ((a .position) + (a .count)) 18446744073709551615 (in-word (a .position) (a .count) (omega (arith, (c .before .before .before .fits .position))) (c .before .before .if1 .left)),
+      le-leb ((a .position) + (a .count)) 18446744073709551615 (in-word (a .position) (a .count) (omega (arith, (start .fits .position))) (c .before .before .if1 .left)),
       sym (c .before .within .ensures) ∙ not-true (c .before .within .result) (c .if2 .taken),
     )
 
@@ -32,10 +33,12 @@ within-requires-2 c κs = search needs
 
 returns-3 : tie.Need-returns-3
 returns-3 c =
-    let a = c .before .before .before .before .before .args in
+    let at-within = c .before .before .before in
+    let start = at-within .before .before in
+    let a = start .args in
     simp (
-      le-leb ((a .position) + (a .count)) 18446744073709551615 (in-word (a .position) (a .count) (omega (arith, (c .before .before .before .before .before .fits .position))) (c .before .before .before .before .if1 .left)),
-      sym (c .before .before .before .within .ensures) ∙ not-false (c .before .before .before .within .result) (c .before .before .if2 .left),
+      le-leb ((a .position) + (a .count)) 18446744073709551615 (in-word (a .position) (a .count) (omega (arith, (start .fits .position))) (c .before .before .before .before .if1 .left)),
+      sym (at-within .within .ensures) ∙ not-false (at-within .within .result) (c .before .before .if2 .left),
       sym (c .before .within2 .ensures) ∙ not-true (c .before .within2 .result) (c .if3 .taken),
     )
 
@@ -44,9 +47,11 @@ within-requires-3 c κs = search needs
 
 returns-4 : tie.Need-returns-4
 returns-4 c =
-    let a = c .before .before .before .before .before .before .args in
-    and-more (le-leb ((a .position) + (a .count)) 18446744073709551615 (in-word (a .position) (a .count) (omega (arith, (c .before .before .before .before .before .before .fits .position))) (c .before .before .before .before .before .if1 .left)))
-    (and-more (sym (c .before .before .before .before .within .ensures) ∙ not-false (c .before .before .before .before .within .result) (c .before .before .before .if2 .left))
+    let at-within = c .before .before .before .before in
+    let start = at-within .before .before in
+    let a = start .args in
+    and-more (le-leb ((a .position) + (a .count)) 18446744073709551615 (in-word (a .position) (a .count) (omega (arith, (start .fits .position))) (c .before .before .before .before .before .if1 .left)))
+    (and-more (sym (at-within .within .ensures) ∙ not-false (at-within .within .result) (c .before .before .before .if2 .left))
     (and-more (sym (c .before .before .within2 .ensures) ∙ not-false (c .before .before .within2 .result) (c .before .if3 .left)) (c .within3 .ensures)))
 
 pub fits-spec : {M : Type 1} → statement M

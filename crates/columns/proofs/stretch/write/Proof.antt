@@ -55,10 +55,14 @@ same-length-6 c = search needs
 
 returns-2 : tie.Need-returns-2
 returns-2 c =
-    let a = c .before .before .before .before .before .before .before .before .before .before .before .before .before .before .before .before .before .args in
+    let at-in-levels = c .before .before .before .before .before .before in
+    let at-in-roots = at-in-levels .before .before .before .before in
+    let at-if2 = at-in-roots .before .before in
+    let start = at-if2 .before .before .before .before .before in
+    let a = start .args in
     let m = columns (a .roots .now) (a .levels .now) (a .positions .now) in
-    stored-as (a .at) (a .root) (a .level) (a .position) (a .count) m _ 8 (sym (c .before .before .before .before .before .before .before .before .before .before .before .before .if2 .taken))
-    (stored-all (a .at) (a .root) (a .level) (a .position) 8 m (columns _ _ _) (c .before .before .before .before .before .before .before .before .before .before .in-roots .ensures) (c .before .before .before .before .before .before .in-levels .ensures) (c .before .before .in-positions .ensures))
+    stored-as (a .at) (a .root) (a .level) (a .position) (a .count) m _ 8 (sym (at-if2 .if2 .taken))
+    (stored-all (a .at) (a .root) (a .level) (a .position) 8 m (columns _ _ _) (at-in-roots .in-roots .ensures) (at-in-levels .in-levels .ensures) (c .before .before .in-positions .ensures))
 
 in-roots-requires-2 : tie.Need-in-roots-requires-2
 in-roots-requires-2 c κs = search needs
@@ -80,9 +84,12 @@ same-length-9 c = search needs
 
 returns-3 : tie.Need-returns-3
 returns-3 c =
-    let a = c .before .before .before .before .before .before .before .before .before .before .before .before .before .before .before .before .before .args in
+    let at-in-levels2 = c .before .before .before .before .before .before in
+    let at-in-roots2 = at-in-levels2 .before .before .before .before in
+    let start = at-in-roots2 .before .before .before .before .before .before .before in
+    let a = start .args in
     let m = columns (a .roots .now) (a .levels .now) (a .positions .now) in
-    stored-all (a .at) (a .root) (a .level) (a .position) (a .count) m (columns _ _ _) (c .before .before .before .before .before .before .before .before .before .before .in-roots2 .ensures) (c .before .before .before .before .before .before .in-levels2 .ensures) (c .before .before .in-positions2 .ensures)
+    stored-all (a .at) (a .root) (a .level) (a .position) (a .count) m (columns _ _ _) (at-in-roots2 .in-roots2 .ensures) (at-in-levels2 .in-levels2 .ensures) (c .before .before .in-positions2 .ensures)
 
 pub write-spec : {M : Type 1} → statement M
 write-spec =

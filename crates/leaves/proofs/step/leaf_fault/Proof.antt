@@ -33,13 +33,15 @@ returns-2 c =
 
 returns-3 : tie.Need-returns-3
 returns-3 c =
-    let a = c .before .before .before .args in
-    simp (le-ltb (a .highest) (a .level) (c .before .before .if1 .left), lt-leb ((2 ^ a .bits) ^ a .level) (a .position) (within (a .bits) (a .highest) (c .before .before .before .pre .1) (a .position) (a .level) (c .before .if2 .left)), le-ltb (a .root) (a .k) (c .if3 .taken))
+    let start = c .before .before .before in
+    let a = start .args in
+    simp (le-ltb (a .highest) (a .level) (c .before .before .if1 .left), lt-leb ((2 ^ a .bits) ^ a .level) (a .position) (within (a .bits) (a .highest) (start .pre .1) (a .position) (a .level) (c .before .if2 .left)), le-ltb (a .root) (a .k) (c .if3 .taken))
 
 returns-4 : tie.Need-returns-4
 returns-4 c =
-    let a = c .before .before .before .before .before .args in
-    simp (le-ltb (a .highest) (a .level) (c .before .before .before .before .if1 .left), lt-leb ((2 ^ a .bits) ^ a .level) (a .position) (within (a .bits) (a .highest) (c .before .before .before .before .before .pre .1) (a .position) (a .level) (c .before .before .before .if2 .left)), lt-ltb (a .root) (a .k) (c .before .before .if3 .left), ne-eqb (a .root) (a .at .root) (c .if4 .taken))
+    let start = c .before .before .before .before .before in
+    let a = start .args in
+    simp (le-ltb (a .highest) (a .level) (c .before .before .before .before .if1 .left), lt-leb ((2 ^ a .bits) ^ a .level) (a .position) (within (a .bits) (a .highest) (start .pre .1) (a .position) (a .level) (c .before .before .before .if2 .left)), lt-ltb (a .root) (a .k) (c .before .before .if3 .left), ne-eqb (a .root) (a .at .root) (c .if4 .taken))
 
 mul-if5 : tie.Need-mul-if5
 mul-if5 c =
@@ -58,15 +60,21 @@ shl-if5 c =
 
 returns-5 : tie.Need-returns-5
 returns-5 c =
-    let a = c .before .before .before .before .before .before .before .args in
-    let other : (a .position * (2 ^ a .bits) ^ (a .highest - a .level)) ≡ a .at .cell → ⊥ = λ e. c .if5 .taken (shifted (a .bits) (a .highest) (c .before .before .before .before .before .before .before .pre .1) (a .position) (a .level) (c .before .before .before .before .before .before .if1 .left) (le-of-lt (within (a .bits) (a .highest) (c .before .before .before .before .before .before .before .pre .1) (a .position) (a .level) (c .before .before .before .before .before .if2 .left))) ∙ e) in
-    simp (le-ltb (a .highest) (a .level) (c .before .before .before .before .before .before .if1 .left), lt-leb ((2 ^ a .bits) ^ a .level) (a .position) (within (a .bits) (a .highest) (c .before .before .before .before .before .before .before .pre .1) (a .position) (a .level) (c .before .before .before .before .before .if2 .left)), lt-ltb (a .root) (a .k) (c .before .before .before .before .if3 .left), eq-eqb (a .root) (a .at .root) (c .before .before .if4 .left), ne-eqb (a .position * (2 ^ a .bits) ^ (a .highest - a .level)) (a .at .cell) other)
+    let at-if2 = c .before .before .before .before .before in
+    let at-if1 = at-if2 .before in
+    let start = at-if1 .before in
+    let a = start .args in
+    let other : (a .position * (2 ^ a .bits) ^ (a .highest - a .level)) ≡ a .at .cell → ⊥ = λ e. c .if5 .taken (shifted (a .bits) (a .highest) (start .pre .1) (a .position) (a .level) (at-if1 .if1 .left) (le-of-lt (within (a .bits) (a .highest) (start .pre .1) (a .position) (a .level) (at-if2 .if2 .left))) ∙ e) in
+    simp (le-ltb (a .highest) (a .level) (at-if1 .if1 .left), lt-leb ((2 ^ a .bits) ^ a .level) (a .position) (within (a .bits) (a .highest) (start .pre .1) (a .position) (a .level) (at-if2 .if2 .left)), lt-ltb (a .root) (a .k) (c .before .before .before .before .if3 .left), eq-eqb (a .root) (a .at .root) (c .before .before .if4 .left), ne-eqb (a .position * (2 ^ a .bits) ^ (a .highest - a .level)) (a .at .cell) other)
 
 returns-6 : tie.Need-returns-6
 returns-6 c =
-    let a = c .before .before .before .before .before .before .before .args in
-    let same : (a .position * (2 ^ a .bits) ^ (a .highest - a .level)) ≡ a .at .cell = sym (shifted (a .bits) (a .highest) (c .before .before .before .before .before .before .before .pre .1) (a .position) (a .level) (c .before .before .before .before .before .before .if1 .left) (le-of-lt (within (a .bits) (a .highest) (c .before .before .before .before .before .before .before .pre .1) (a .position) (a .level) (c .before .before .before .before .before .if2 .left)))) ∙ c .if5 .left in
-    simp (le-ltb (a .highest) (a .level) (c .before .before .before .before .before .before .if1 .left), lt-leb ((2 ^ a .bits) ^ a .level) (a .position) (within (a .bits) (a .highest) (c .before .before .before .before .before .before .before .pre .1) (a .position) (a .level) (c .before .before .before .before .before .if2 .left)), lt-ltb (a .root) (a .k) (c .before .before .before .before .if3 .left), eq-eqb (a .root) (a .at .root) (c .before .before .if4 .left), eq-eqb (a .position * (2 ^ a .bits) ^ (a .highest - a .level)) (a .at .cell) same)
+    let at-if2 = c .before .before .before .before .before in
+    let at-if1 = at-if2 .before in
+    let start = at-if1 .before in
+    let a = start .args in
+    let same : (a .position * (2 ^ a .bits) ^ (a .highest - a .level)) ≡ a .at .cell = sym (shifted (a .bits) (a .highest) (start .pre .1) (a .position) (a .level) (at-if1 .if1 .left) (le-of-lt (within (a .bits) (a .highest) (start .pre .1) (a .position) (a .level) (at-if2 .if2 .left)))) ∙ c .if5 .left in
+    simp (le-ltb (a .highest) (a .level) (at-if1 .if1 .left), lt-leb ((2 ^ a .bits) ^ a .level) (a .position) (within (a .bits) (a .highest) (start .pre .1) (a .position) (a .level) (at-if2 .if2 .left)), lt-ltb (a .root) (a .k) (c .before .before .before .before .if3 .left), eq-eqb (a .root) (a .at .root) (c .before .before .if4 .left), eq-eqb (a .position * (2 ^ a .bits) ^ (a .highest - a .level)) (a .at .cell) same)
 
 pub leaf-fault-spec : {M : Type 1} → statement M
 leaf-fault-spec =
