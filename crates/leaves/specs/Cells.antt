@@ -2,39 +2,29 @@
 --
 --   "A smallest cell is a prism of level 21. It lies in itself and in each prism reached from it by taking parents"
 --
---   up S k e          the element reached from e by taking parents k times
---   LiesIn S e f      e lies in f: f is reached from e by taking parents, at most as often as there is one
 --   InLeaf S v r e    the smallest cell e of root r lies in the leaf v
 --   OneLeaf           it lies in exactly one leaf of a list
 --   CellsOnce S K vs  each smallest cell of each of the K roots does
 --   CellLaws S            all valid lists are so, at the shape's number of children and highest level; and a smallest cell lies in a leaf exactly
 --                     when its position, divided by the cells that the leaf holds, is the leaf's
 --
--- Assumes nothing.
+-- Not here: one element in another (`LiesIn` of `tree/specs/Ancestors.antt`). Assumes nothing.
 use mathlib.Core.Path.{_≡_}
 use mathlib.Core.Logic.{_↔_}
 use mathlib.Core.List.{List}
-use Prim.Native.Nat.{ℕ, zero, suc, _^_, _≤_, _<_}
+use Prim.Native.Nat.{ℕ, _^_, _≤_, _<_}
 use lib.ListN.{length}
 use Rattle.tree.specs.Shape.{Shape}
 use Rattle.tree.specs.Laws.{Sound}
+use Rattle.tree.specs.Ancestors.{LiesIn}
 use Rattle.tree.specs.Words as words
 use Rattle.leaves.specs.Leaves.{Leaf, Valid}
 use Rattle.leaves.specs.Laws.{nth, Holds}
 
 module _ {E : Type 0} (S : Shape E) where
-  unfoldable pub up : ℕ → E → E
-  up zero e = e
-  up (suc k) e = S .parent (up k e)
-
-  pub record LiesIn (e f : E) : Type 0 where
-    pub times : ℕ
-    pub parents : times ≤ S .level e
-    pub reached : up times e ≡ f
-
   pub record InLeaf (v : Leaf) (r : ℕ) (e : E) : Type 0 where
     pub root : v .root ≡ r
-    pub lies : LiesIn e (words.elementAt S (v .level) (v .position))
+    pub lies : LiesIn S e (words.elementAt S (v .level) (v .position))
 
   -- exactly one: there is one, and any is that one
   pub record OneLeaf (vs : List Leaf) (r : ℕ) (e : E) : Type 0 where
