@@ -3,15 +3,14 @@
 --   PrintedResult   what the call returns, and what its lent buffer holds afterwards
 --
 -- Assumes nothing.
-use mathlib.Core.Path.{_≡_}
 use mathlib.Core.List.{List}
 use Prim.Native.Nat.{ℕ}
 use lib.ListN.{length}
-use Rattle.paper.specs.Memory.{lent}
-use Rattle.orders.specs.Calls.{output, answered}
+use Rattle.paper.specs.Outcome.{Outcome, mapped}
+use Rattle.paper.specs.Memory.{written, Fulfils}
+use Rattle.orders.specs.Calls.{answer}
 use Rattle.interface.specs.declared.NumberResult.{NumberResult}
 use Rattle.interface.specs.Results.{numberResult}
 
-pub record PrintedResult (r : NumberResult) (input buffer buffer′ : List ℕ) : Type 0 where
-  pub result : r ≡ numberResult (answered input (length buffer))
-  pub written : buffer′ ≡ lent (answered input (length buffer)) (output input) buffer
+abbrev pub PrintedResult : NumberResult → List ℕ → List ℕ → List ℕ → Type 0
+PrintedResult r input m m′ = Fulfils (λ x. x) (λ (o : Outcome (List ℕ)). numberResult (mapped length o)) written (answer input (length m)) r m m′

@@ -3,24 +3,17 @@ use mathlib.Core.Path.{_≡_, ap, _∙_}
 use mathlib.Core.List.{List}
 use Prim.Native.Nat.{ℕ}
 use borrow.Author.Needs.{needs}
-use Rattle.paper.specs.Outcome.{Outcome}
-use Rattle.paper.specs.Memory.{lent}
 use Rattle.paper.specs.Readings.{valueOf}
 use Rattle.paper.specs.declared.NumberAnswer.{NumberAnswer}
-use Rattle.orders.specs.Calls.{output, Answered}
+use Rattle.orders.specs.Calls.{Answered}
 use Rattle.interface.specs.declared.NumberResult.{NumberResult}
 use Rattle.interface.specs.Results.{numberResult}
 use Rattle.interface.specs.Printing.{PrintedResult}
 use Rattle.interface.proofs.order_calls.gw_order.Statement.{statement}
 use Rattle.interface.proofs.order_calls.gw_order.Tie as tie
 
-carried : {r : NumberResult} {input buffer buffer′ : List ℕ} (a : NumberAnswer) → Answered a input buffer buffer′ → r ≡ numberResult (valueOf a)
-    → PrintedResult r input buffer buffer′
-carried {r} {input} {buffer} {buffer′} a call e =
-    record {
-      result = e ∙ ap numberResult (call .answer);
-      written = call .written ∙ ap (λ (o : Outcome ℕ). lent o (output input) buffer) (call .answer);
-    }
+carried : {r : NumberResult} {input m m′ : List ℕ} (a : NumberAnswer) → Answered a input m m′ → r ≡ numberResult (valueOf a) → PrintedResult r input m m′
+carried a call e = record { answer = e ∙ ap numberResult (call .answer); memory = call .memory }
 
 answer-requires : tie.Need-answer-requires
 answer-requires c κs = search needs
