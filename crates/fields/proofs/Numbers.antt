@@ -1,11 +1,11 @@
 -- The number in a field: digit after digit, each makes the number before it ten times as large. Assumes nothing.
-use mathlib.Core.Path.{_≡_, ap, ap₂, _∙_, sym}
+use mathlib.Core.Path.{_≡_, refl, ap, ap₂, _∙_, sym}
 use mathlib.Core.Bool.{Bool, true, false, not, _&&_}
 use mathlib.Core.List.{List}
 use Prim.Native.Nat.{ℕ, _+_, _-_, _*_, _^_, _≤_, _<_}
 use native.Mathlib.Nat.{pow-le-pow-right}
 use native.Mathlib.Omega.{arith}
-use lib.Dec.{eqb}
+use lib.Dec.{eqb, leb}
 use lib.ListN.{length, getD, drop, drop-of-length-le, List·getD-eq-default}
 use lib.Pow.{pow-add}
 use borrow.Author.Tests.{eq-eqb, ne-eqb, le-leb, lt-leb}
@@ -14,9 +14,9 @@ use Rattle.fields.specs.Fields.{isDigit, allDigits, leadingZero, valueFr
 use Rattle.fields.specs.Inner.{number}
 use Rattle.fields.proofs.Cursor.{drop-next}
 
--- ---- up to nine digits fit a word
-pub power-small : (i : ℕ) → i < 9 → 10 ^ i ≤ 100000000
-power-small i small = let few : i ≤ 8 = omega arith in pow-le-pow-right (omega arith) few
+-- ---- up to 19 digits fit a word
+pub power-small : (i : ℕ) → i < 19 → 10 ^ i ≤ 10 ^ 18
+power-small i small = let few : i ≤ 18 = omega arith in pow-le-pow-right (omega arith) few
 
 pub digit-below : (n i d : ℕ) → n < 10 ^ i → d < 10 → n * 10 + d < 10 ^ (i + 1)
 digit-below n i d below small = rw (pow-add 10 i 1) (omega arith)
@@ -72,8 +72,13 @@ module _ (f : List ℕ) where
   pub number-long : 9 < length f → refused 23 0 ≡ number f
   number-long long = simp (le-leb 1 (length f) (omega arith), lt-leb (length f) 9 long)
 
-  pub number-zero : leadingZero f ≡ true → (length f ≡ 0 → ⊥) → length f ≤ 9 → refused 23 0 ≡ number f
-  number-zero zero some short = simp (le-leb 1 (length f) (omega arith), le-leb (length f) 9 short, zero)
+  pub number-zero : leadingZero f ≡ true → refused 23 0 ≡ number f
+  number-zero zero = by-tests (leb 1 (length f)) refl (leb (length f) 9) refl
+    where
+      by-tests : (x : Bool) → leb 1 (length f) ≡ x → (y : Bool) → leb (length f) 9 ≡ y → refused 23 0 ≡ number f
+      by-tests false e y d = simp e
+      by-tests true e false d = simp (e, d)
+      by-tests true e true d = simp (e, d, zero)
 
   pub number-digits : leadingZero f ≡ false → (length f ≡ 0 → ⊥) → length f ≤ 9
       → refuse-when (not (allDigits f)) 23 (accepted (value f)) ≡ number f

@@ -22,9 +22,9 @@ fn leading_zero(f: &[u8]) -> bool
     f.len() != 1
 }
 
-// What up to nine digits say; refused where there is another byte.
+// What up to 19 digits say, which fit a word; refused where there is another byte.
 fn digits(f: &[u8]) -> NumberAnswer
-    requires { ⌜ length (now f) ≤ 9 ⌝ }
+    requires { ⌜ length (now f) ≤ 19 ⌝ }
     ensures { λ r. ⌜ valueOf r ≡ refuse-when (not (allDigits (now (f .entry)))) 23 (accepted (value (now (f .entry)))) ⌝ }
 {
     let mut n: u64 = 0;

@@ -13,13 +13,13 @@ add-if2 : tie.Need-add-if2
 add-if2 c = search needs
 
 returns-2 : tie.Need-returns-2
-returns-2 c = sym (closes-not (c .before .before .args .input .now) (c .before .before .args .end) (c .if2 .taken))
+returns-2 c = sym (closes-not (c .before .before .args .input .now) (c .before .before .args .end) (λ last. omega (arith, last, c .if2 .taken)))
 
 shared-slice-read-result : tie.Need-shared-slice-read-result
 shared-slice-read-result c = search needs
 
 returns-3 : tie.Need-returns-3
-returns-3 c = sym (closes-last (c .before .before .before .args .input .now) (c .before .before .before .args .end) (c .before .if2 .left))
+returns-3 c = sym (closes-last (c .before .before .before .args .input .now) (c .before .before .before .args .end) (omega (arith, c .before .if2 .left)))
 
 pub closing-spec : {M : Type 1} → statement M
 closing-spec = tie.close (tie.spec returns add-if2 returns-2 shared-slice-read-result returns-3)

@@ -1,5 +1,6 @@
 -- `outside` meets its contract: each field that has a range, by its number. Assumes nothing.
 use mathlib.Core.Path.{sym, _∙_}
+use native.Mathlib.Omega.{arith}
 use borrow.Author.Needs.{needs}
 use borrow.Author.Tests.{lt-ltb, le-ltb}
 use Rattle.forms.proofs.Ranges.{outside-4, outside-5, outside-6, outside-7, outside-none}
@@ -13,10 +14,10 @@ returns : tie.Need-returns
 returns c = (c .count-fault .ensures) ∙ sym (outside-4 (c .before .before .args .v) (c .before .before .args .k) (c .before .before .args .highest) (c .before .before .args .i) (c .before .if1 .taken))
 
 returns-2 : tie.Need-returns-2
-returns-2 c = sym (outside-5 (c .before .before .before .args .v) (c .before .before .before .args .k) (c .before .before .before .args .highest) (c .before .before .before .args .i) (c .before .if2 .taken) ∙ simp (lt-ltb 21 (c .before .before .before .args .v) (c .if3 .taken)))
+returns-2 c = sym (outside-5 (c .before .before .before .args .v) (c .before .before .before .args .k) (c .before .before .before .args .highest) (c .before .before .before .args .i) (c .before .if2 .taken) ∙ simp (lt-ltb 21 (c .before .before .before .args .v) (omega (arith, c .if3 .taken))))
 
 returns-3 : tie.Need-returns-3
-returns-3 c = sym (outside-5 (c .before .before .before .args .v) (c .before .before .before .args .k) (c .before .before .before .args .highest) (c .before .before .before .args .i) (c .before .if2 .taken) ∙ simp (le-ltb 21 (c .before .before .before .args .v) (c .if3 .left)))
+returns-3 c = sym (outside-5 (c .before .before .before .args .v) (c .before .before .before .args .k) (c .before .before .before .args .highest) (c .before .before .before .args .i) (c .before .if2 .taken) ∙ simp (le-ltb 21 (c .before .before .before .args .v) (omega (arith, c .if3 .left))))
 
 count-fault-requires-2 : tie.Need-count-fault-requires-2
 count-fault-requires-2 c κs = search needs
