@@ -16,6 +16,7 @@ use Rattle.leaves.specs.Leaves.{CHILDREN, Columns, front}
 use Rattle.leaves.specs.Calls.{uniform}
 use Rattle.adaption.specs.Calls.{adapt}
 use Rattle.shares.specs.Calls.{shares}
+use Rattle.orders.specs.Calls.{answer}
 use Rattle.results.specs.declared.NumberResult.{NumberResult}
 use Rattle.results.specs.Results.{numberResult, passResult}
 
@@ -35,3 +36,6 @@ AdaptResult k r cs marks m m′ = Fulfils itself counted front (adapt CHILDREN H
 abbrev pub SharesResult : ℕ → ℕ → ℕ → Columns → List ℕ → List ℕ → List ℕ → Type 0
 SharesResult k p r cs weights m m′ =
     Fulfils itself (λ o. passResult (mapped (λ (boundaries : List ℕ). tt) o)) written (shares CHILDREN HIGHEST k p cs weights m) r m m′
+
+abbrev pub OrderResult : NumberResult → List ℕ → List ℕ → List ℕ → Type 0
+OrderResult r input m m′ = Fulfils itself counted written (answer input (length m)) r m m′

@@ -19,11 +19,11 @@ use Rattle.leaves.proofs.Listed.{getD-rows, valid-passes, listed-passed}
 use Rattle.leaves.proofs.Entries.{some-leaf}
 use Rattle.leaves.proofs.UniformValid.{uniform-valid}
 use Rattle.shares.specs.Calls.{weightFault, shares}
-use Rattle.orders.specs.declared.Form.{Form}
-use Rattle.orders.specs.Text.{weights}
-use Rattle.orders.specs.Steps.{OrderlyForm}
+use Rattle.forms.specs.declared.Form.{Form}
+use Rattle.text.specs.Text.{weights}
+use Rattle.forms.proofs.Bounds.{Orderly}
 use Rattle.orders.specs.Laws.{started, SameShares}
-use Rattle.orders.proofs.Sharing.{boundary-first}
+use Rattle.text.proofs.Sharing.{boundary-first}
 
 -- ---- a list is the leaves of its columns
 leaf-alike : {a b c a′ b′ c′ : ℕ} → a ≡ a′ → b ≡ b′ → c ≡ c′ → leaf a b c ≡ leaf a′ b′ c′
@@ -54,18 +54,18 @@ weights-pass i (v ∷ vs) rest = weights-pass (suc i) vs rest
 in-range-test : (P : ℕ) → 0 < P → P ≤ 4096 → not (outOfRange P) ≡ true
 in-range-test P some few = simp (ne-eqb P 0 (λ none. omega (arith, none)), le-ltb 4096 P few)
 
-module _ (f : Form) (sound : OrderlyForm f) (some : 0 < f .roots) (few : f .roots ≤ 4096) (shallow : f .level ≤ 21) where
+module _ (f : Form) (sound : Orderly f) where
   valid : ValidList 8 21 (f .roots) (rootsOf (started f)) (levelsOf (started f)) (positionsOf (started f))
   valid =
-      let covers : Valid 8 21 (f .roots) (started f) = uniform-valid 8 21 (f .level) (omega arith) shallow (f .roots) in
+      let covers : Valid 8 21 (f .roots) (started f) = uniform-valid 8 21 (f .level) (omega arith) (sound .shallow) (f .roots) in
       let long : length (rootsOf (started f)) ≡ length (started f) = length-map (started f) (λ (v : Leaf). v .root) in
       let count : length (started f) ≡ f .leaves = rows-length _ 0 (f .roots * 8 ^ f .level) ∙ sym (sound .counted) in
       record {
-        some-root = some;
-        few-roots = few;
+        some-root = sound .some-root;
+        few-roots = sound .few-roots;
         levels-long = long ∙ sym (length-map (started f) (λ (v : Leaf). v .level));
         positions-long = long ∙ sym (length-map (started f) (λ (v : Leaf). v .position));
-        some = omega (arith, long, some-leaf 8 21 (f .roots) (started f) some covers);
+        some = omega (arith, long, some-leaf 8 21 (f .roots) (started f) (sound .some-root) covers);
         few = omega (arith, long, count, sound .few-leaves);
         valid = subst (Valid 8 21 (f .roots)) (sym (leaves-columns (started f))) covers;
       }

@@ -2,12 +2,15 @@
 use mathlib.Core.Path.{_≡_, ap, _∙_, sym}
 use mathlib.Core.List.{List}
 use Prim.Native.Nat.{ℕ}
-use Rattle.paper.specs.Outcome.{Outcome, refused}
-use Rattle.paper.specs.Memory.{lent}
+use lib.ListN.{length}
+use Rattle.paper.specs.Outcome.{Outcome, refused, mapped}
+use Rattle.paper.specs.Memory.{lent, written}
 use Rattle.paper.specs.Readings.{valueOf, passOf}
 use Rattle.leaves.specs.Leaves.{Leaf, rootsOf, levelsOf, positionsOf}
 use Rattle.leaves.specs.Calls.{Columns}
+use Rattle.paper.proofs.Memory.{decided, spared}
 use Rattle.gridfile.specs.Readings.{gridOf}
+use Rattle.orders.specs.Calls as orders
 use Rattle.promises.specs.Demand1.{Three, OfCalls}
 use Rattle.promises.specs.Demand2.{Determined}
 use Rattle.promises.proofs.Demand2.{of-elements}
@@ -80,8 +83,8 @@ of-calls =
         λ r a number at f e. columns-spared gridOf grids _ m r a number at (f .columns) e,
       );
       ordering = λ input m. (
-        λ r s a b f g. let same = one-answer valueOf numbers _ r s (f .answer) (g .answer) in (same, buffer-decided valueOf numbers _ m r s a b same (f .written) (g .written)),
-        λ r a number at f e. buffer-spared valueOf numbers _ m r a number at (f .written) e,
+        decided valueOf (mapped length) written (orders.answer input (length m)) m numbers,
+        spared valueOf length written (orders.answer input (length m)) m,
       );
       on-orders = λ input room. (order-said input, printed-said input room);
     }

@@ -21,9 +21,11 @@ use Rattle.gridfile.specs.Numbers.{read, byteAt, numberAt}
 use Rattle.gridfile.specs.Reading.{and-then, opens, head, afterRuns, afterRoots, headAt, fits, leavesOf, after, runRead, afterCount, afterLevel, runAt, runsAt, headed, gridAt, fitted}
 use Rattle.corners.specs.declared.Root.{Root}
 use Rattle.corners.specs.CornerPoints.{rootWithin, cornerPoint}
-use Rattle.orders.specs.Fields.{fields, ended, isNumber, given, number}
-use Rattle.orders.specs.Calls.{output, answered}
-use Rattle.orders.specs.Orders as orders
+use Rattle.fields.specs.Fields.{fields, ended, isNumber}
+use Rattle.forms.specs.Forms as forms
+use Rattle.forms.specs.Forms.{given, numberIn}
+use Rattle.orders.specs.Calls.{output}
+use Rattle.orders.specs.Calls as orders
 use Rattle.tree.specs.Words
 use Rattle.tree.specs.Calls as calls
 use Rattle.leaves.specs.Calls as lists
@@ -205,21 +207,21 @@ on-points l p i r =
     (fine _))))
 
 -- ---- orders
-field-few : (fs : List (List ℕ)) (i : ℕ) → orders.fault fs i ≤ 24
+field-few : (fs : List (List ℕ)) (i : ℕ) → forms.fault fs i ≤ 24
 field-few fs i =
-    let v = number fs i in
+    let v = numberIn fs i in
     fault-few (leb (length fs) (i - 1)) 23 _ (omega arith)
     (fault-few (not (isNumber (given fs i))) 23 _ (omega arith)
     (fault-few (eqb i 4 && outOfRange v) 17 _ (omega arith)
     (fault-few (eqb i 5 && ltb 21 v) 1 _ (omega arith)
     (fault-few (eqb i 6 && outOfRange v) 17 _ (omega arith)
-    (fault-few (eqb i 7 && ltb (number fs 5) v) 23 _ (omega arith)
-    (fault-few (eqb i 7 && ltb limit (number fs 4 * 8 ^ v)) 15 0 (omega arith) (omega arith)))))))
+    (fault-few (eqb i 7 && ltb (numberIn fs 5) v) 23 _ (omega arith)
+    (fault-few (eqb i 7 && ltb limit (numberIn fs 4 * 8 ^ v)) 15 0 (omega arith) (omega arith)))))))
 
-pub order-said : (input : List ℕ) → Numbered (orders.decided input)
+pub order-said : (input : List ℕ) → Numbered (forms.read input)
 order-said input =
-    in-turn (orders.fault (fields input)) (field-few (fields input)) 1 (rows (λ i. i) 1 7) _
-    (when (not (eqb (length (fields input)) 7 && ended input)) 23 8 refl (fine (orders.comparisonOf (fields input))))
+    in-turn (forms.fault (fields input)) (field-few (fields input)) 1 (rows (λ i. i) 1 7) _
+    (when (not (eqb (length (fields input)) 7 && ended input)) 23 8 refl (fine (forms.formIn (fields input))))
 
-pub printed-said : (input : List ℕ) (room : ℕ) → Numbered (answered input room)
-printed-said input room = when (ltb room (length (output input))) 14 (length (output input)) refl (fine (length (output input)))
+pub printed-said : (input : List ℕ) (room : ℕ) → Numbered (orders.answer input room)
+printed-said input room = when (ltb room (length (output input))) 14 (length (output input)) refl (fine (output input))

@@ -29,8 +29,8 @@ use Rattle.gridfile.specs.Calls.{FileWritten, FileRead}
 use Rattle.gridfile.specs.declared.GridAnswer.{GridAnswer}
 use Rattle.corners.specs.declared.Root.{Root}
 use Rattle.corners.specs.CornerPoints.{cornerPoint}
-use Rattle.orders.specs.Orders.{decided}
-use Rattle.orders.specs.Calls.{answered, Answered}
+use Rattle.forms.specs.Forms as forms
+use Rattle.orders.specs.Calls as orders
 use Rattle.tree.specs.Shape.{Shape}
 use Rattle.line.specs.Elements.{line}
 use Rattle.triangle.specs.Elements.{triangle}
@@ -73,7 +73,7 @@ abbrev pub Reads : List ℕ → Three → GridAnswer → Three → Type 0
 Reads bytes m r m′ = FileRead bytes r (m .roots) (m .levels) (m .positions) (m′ .roots) (m′ .levels) (m′ .positions)
 
 abbrev pub Prints : List ℕ → List ℕ → NumberAnswer → List ℕ → Type 0
-Prints input m r m′ = Answered r input m m′
+Prints input m r m′ = orders.Answered r input m m′
 
 -- ---- the refusals
 pub record Numbered {A : Type 0} (o : Outcome A) : Type 0 where
@@ -106,7 +106,7 @@ pub record OfCalls : Type 0 where
   pub on-triangles : OnElements triangle
   pub on-prisms : OnElements prism
   pub on-lists : OnLists
-  pub on-orders : (input : List ℕ) (room : ℕ) → Numbered (decided input) × Numbered (answered input room)
+  pub on-orders : (input : List ℕ) (room : ℕ) → Numbered (forms.read input) × Numbered (orders.answer input room)
   pub on-points : (l p i : ℕ) (r : Root) → Numbered (cornerPoint l p i r)
   pub uniform : (k level : ℕ) (m : Three) → Decided (Starts k level m) × Spared valueOf m (Starts k level m)
   pub adaption : (k : ℕ) (vs : Three) (marks : List ℕ) (m : Three) → Decided (Adapts k vs marks m) × Spared valueOf m (Adapts k vs marks m)
