@@ -10,9 +10,10 @@ use mathlib.Core.Path.{_≡_}
 use mathlib.Core.List.{List, []}
 use Prim.Native.Nat.{ℕ, _+_, _-_, _*_, _/_, _≤_}
 use lib.ListN.{length, getD, take}
-use Rattle.paper.specs.Outcome.{accepted, passed}
-use Rattle.leaves.specs.Leaves.{Leaf, uniform, rootsOf, levelsOf, positionsOf}
-use Rattle.shares.specs.Shares.{boundary}
+use Rattle.paper.specs.Outcome.{accepted}
+use Rattle.tree.specs.Anchors.{HIGHEST}
+use Rattle.leaves.specs.Leaves.{CHILDREN, Leaf, uniformList, columnsOf}
+use Rattle.shares.specs.Shares.{boundary, boundaries}
 use Rattle.shares.specs.Calls.{shares}
 use Rattle.forms.specs.declared.Form.{Form}
 use Rattle.fields.specs.Fields.{fields}
@@ -22,13 +23,12 @@ use Rattle.orders.specs.Calls.{output}
 
 -- the uniform start that is ordered
 abbrev pub started : Form → List Leaf
-started f = uniform 8 21 (f .roots) (f .level)
+started f = uniformList CHILDREN HIGHEST (f .roots) (f .level)
 
 pub record SameShares (f : Form) : Type 0 where
   pub leaf-count : f .leaves ≡ length (started f)
-  pub call-passes :
-      shares 8 21 (f .roots) (f .shares) (rootsOf (started f)) (levelsOf (started f)) (positionsOf (started f)) (weights f) (f .shares + 1)
-      ≡ passed
+  pub call-passes : (column : List ℕ) → f .shares + 1 ≤ length column
+      → shares CHILDREN HIGHEST (f .roots) (f .shares) (columnsOf (started f)) (weights f) column ≡ accepted (boundaries (f .shares) (weights f))
   pub formula-27 : (s : ℕ) → s ≤ f .shares → boundary (f .shares) (weights f) s ≡ s * f .leaves / f .shares
 
 pub record Promised : Type 0 where
