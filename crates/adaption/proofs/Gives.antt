@@ -6,8 +6,7 @@ use Prim.Native.Nat.{ℕ, _+_, _≤_, _<_}
 use native.Mathlib.Nat.{add-zero, mod-lt}
 use native.Mathlib.Omega.{arith}
 use borrow.Author.Tests.{eq-eqb, ne-eqb}
-use Rattle.leaves.specs.Leaves.{Leaf}
-use Rattle.leaves.specs.Laws.{nth}
+use Rattle.leaves.specs.Leaves.{Leaf, nth}
 use Rattle.adaption.specs.Adaption.{mark, childrenOf, parent, merging, eldest, gives}
 use Rattle.adaption.specs.Laws.{Merging}
 use Rattle.adaption.proofs.Family.{is-merging, eldest-in, not-so}

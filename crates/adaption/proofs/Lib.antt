@@ -8,6 +8,7 @@ pub mod Passing
 pub mod Fitting
 pub mod Siblings
 pub mod Marked
+pub mod Readiness
 pub mod Adapting
 pub mod Covering
 pub mod Validity

@@ -9,7 +9,7 @@ use lib.ListN.{length}
 use Rattle.paper.specs.Outcome.{refused, passed, checks, scan, rows}
 use Rattle.paper.proofs.Scan.{scan-step, scan-found, scan-passed, fault-none, rows-done}
 use Rattle.adaption.specs.Calls.{markFault, depthFault, numbers, marked}
-use Rattle.adaption.specs.Pass.{Faultless}
+use Rattle.adaption.specs.Inner.{Faultless}
 
 module _ (fault : ℕ → ℕ) (m : ℕ) where
   -- the leaves before number i are without fault

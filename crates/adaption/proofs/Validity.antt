@@ -11,8 +11,7 @@ use native.Mathlib.Omega.{arith}
 use lib.ListN.{length, drop, drop-of-length-le}
 use lib.Seq.{drop-cons}
 use Rattle.paper.specs.Outcome.{rows}
-use Rattle.leaves.specs.Leaves.{Leaf, leaf, Spot, spotAt, endOf, Covers, Valid}
-use Rattle.leaves.specs.Laws.{nth}
+use Rattle.leaves.specs.Leaves.{Leaf, nth, leaf, Spot, spotAt, endOf, Covers, Valid}
 use Rattle.leaves.proofs.Entries.{level-at}
 use Rattle.adaption.specs.Adaption.{mark, child, parent, childrenOf, merging, joined, gives, adapted}
 use Rattle.adaption.specs.Laws.{Merging, Refinable}

@@ -7,7 +7,7 @@ ghost use lib.ListN.{length};
 ghost use Rattle.paper.specs.Outcome.{checks, passed, fault-when};
 ghost use Rattle.paper.specs.Readings.{checksOf};
 ghost use Rattle.adaption.specs.Calls.{markFault, depthFault, numbers, marked};
-ghost use Rattle.adaption.specs.Pass.{Faultless};
+ghost use Rattle.adaption.specs.Inner.{Faultless};
 
 // The first fault of the marks: 13 at any leaf, then 7.
 pub(crate) fn fault(highest: u8, levels: &[u8], marks: &[u8]) -> Fault
@@ -87,7 +87,8 @@ fn above_two(marks: &[u8]) -> Fault
 // The first mark 1 on a leaf of the highest level.
 fn too_deep(highest: u8, levels: &[u8], marks: &[u8]) -> Fault
     requires { ⌜ length (now levels) ≡ length (now marks) ⌝ }
-    ensures { λ r. ⌜ checksOf r ≡ checks (depthFault highest (now (levels .entry)) (now (marks .entry))) (numbers (length (now (marks .entry)))) ⌝ }
+    ensures { λ r. ⌜ checksOf r ≡ checks (depthFault highest (now (levels .entry)) (now (marks .entry)))
+        (numbers (length (now (marks .entry)))) ⌝ }
 {
     let mut i = 0;
     while i < marks.len() {

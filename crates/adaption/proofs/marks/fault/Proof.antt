@@ -5,7 +5,7 @@ use borrow.Author.Needs.{needs}
 use Rattle.paper.specs.Outcome.{passed}
 use Rattle.paper.proofs.Scan.{fault-taken, fault-none, scan-passed, scan-refused}
 use Rattle.adaption.specs.Calls.{markFault, numbers}
-use Rattle.adaption.specs.Pass.{Faultless}
+use Rattle.adaption.specs.Inner.{Faultless}
 use Rattle.adaption.proofs.Sound.{faultless-marks}
 use Rattle.adaption.proofs.marks.fault.Statement.{statement}
 use Rattle.adaption.proofs.marks.fault.Tie as tie

@@ -4,7 +4,7 @@ use Prim.Native.Nat.{_-_, _≤_}
 use native.Mathlib.Omega.{arith}
 use lib.ListN.{length}
 use borrow.Author.Needs.{needs}
-use Rattle.adaption.specs.Pass.{Faultless}
+use Rattle.adaption.specs.Inner.{Faultless}
 use Rattle.adaption.proofs.Sound.{faultless-none, faultless-more}
 use Rattle.adaption.proofs.marks.worst.Statement.{statement}
 use Rattle.adaption.proofs.marks.worst.Tie as tie

@@ -1,13 +1,15 @@
--- The pass over the marks as the code makes it: turn by turn, from one leaf that is no younger sibling of a merging family to the next.
--- Definitions only; `proofs/Turns.antt` ties them to what each leaf gives.
+-- Inner contracts: what the code's own functions ask and answer. A reader of the promises may skip this file. Definitions only.
+--
+-- The pass over the marks as the code makes it: turn by turn, from one leaf that is no younger sibling of a merging family to the next;
+-- `proofs/Turns.antt` ties it to what each leaf gives.
 --
 --   turn vs ms i     what happens at leaf i: 1 it is refined, 2 a merging family begins with it, 0 neither
 --   gain n t         how many leaves a turn makes
 --   stride n t       how many leaves a turn takes
 --   newLevel, newPosition   of the first leaf that a turn makes
 --   made vs ms i     what the turn at leaf i makes
---   Ready            what the pass needs of a list and its marks: no mark above 2; n leaves of one level, from a position divisible by n on,
---                    are a family; no level or position that it makes is too large for its type
+--   Ready cs ms      what the pass needs of a list and its marks: columns of one length, no mark above 2; n leaves of one level, from a
+--                    position divisible by n on, are a family; no level or position that it makes is too large for its type
 --   Faultless        the contract of the loop over the marks: its answer is 0 only where the first k marks have no fault
 --
 -- Assumes nothing.
@@ -17,9 +19,9 @@ use mathlib.Core.List.{List}
 use Prim.Native.Nat.{ℕ, _+_, _-_, _*_, _/_, _%_, _^_, _≤_, _<_}
 use lib.Dec.{eqb}
 use lib.ListN.{length}
-use Rattle.leaves.specs.Leaves.{Leaf}
-use Rattle.leaves.specs.Stretch.{stretch}
-use Rattle.leaves.specs.Laws.{nth}
+use Rattle.leaves.specs.Leaves.{Leaf, nth, Columns, leafAt, leaves, room}
+use Rattle.leaves.specs.Calls.{limit}
+use Rattle.columns.specs.Laying.{stretch}
 use Rattle.adaption.specs.Adaption.{mark, child, parent, merging}
 use Rattle.adaption.specs.Calls.{markFault, depthFault}
 
@@ -43,14 +45,18 @@ module _ (n : ℕ) where
   made vs ms i =
       stretch (nth vs i .root) (newLevel (turn vs ms i) (nth vs i .level)) (newPosition (turn vs ms i) (nth vs i .position)) (gain (turn vs ms i))
 
-  pub record Ready (vs : List Leaf) (ms : List ℕ) : Type 0 where
-    pub siblings : (j : ℕ) → j + n ≤ length vs → 0 < nth vs j .level → nth vs j .position % n ≡ 0
-        → ((t : ℕ) → t < n → nth vs (j + t) .level ≡ nth vs j .level)
-        → (t : ℕ) → t < n → nth vs (j + t) ≡ child n (parent n (nth vs j)) t
-    pub known : (i : ℕ) → i < length vs → mark ms i ≤ 2
-    pub low : (i : ℕ) → i < length vs → nth vs i .position < 2 ^ 63
-    pub shallow : (i : ℕ) → i < length vs → mark ms i ≡ 1 → nth vs i .level < 255
-    pub narrow : (i : ℕ) → i < length vs → mark ms i ≡ 1 → n * nth vs i .position + n ≤ 2 ^ 63
+  pub record Ready (cs : Columns) (ms : List ℕ) : Type 0 where
+    pub few : room cs ≤ limit
+    pub levels-long : length (cs .roots) ≡ length (cs .levels)
+    pub positions-long : length (cs .roots) ≡ length (cs .positions)
+    pub marks-long : room cs ≡ length ms
+    pub siblings : (j : ℕ) → j + n ≤ length (leaves cs) → 0 < nth (leaves cs) j .level → nth (leaves cs) j .position % n ≡ 0
+        → ((t : ℕ) → t < n → nth (leaves cs) (j + t) .level ≡ nth (leaves cs) j .level)
+        → (t : ℕ) → t < n → nth (leaves cs) (j + t) ≡ child n (parent n (nth (leaves cs) j)) t
+    pub known : (i : ℕ) → i < room cs → mark ms i ≤ 2
+    pub low : (i : ℕ) → i < room cs → leafAt cs i .position < 2 ^ 63
+    pub shallow : (i : ℕ) → i < room cs → mark ms i ≡ 1 → leafAt cs i .level < 255
+    pub narrow : (i : ℕ) → i < room cs → mark ms i ≡ 1 → n * leafAt cs i .position + n ≤ 2 ^ 63
 
 abbrev pub Faultless : ℕ → List ℕ → List ℕ → ℕ → ℕ → Type 0
 Faultless L ls ms k r = r ≡ 0 → (j : ℕ) → j < k → (markFault ms j ≡ 0) × (depthFault L ls ms j ≡ 0)
