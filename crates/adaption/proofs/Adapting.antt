@@ -18,9 +18,10 @@ use Rattle.leaves.specs.Calls.{limit, outOfRange, listed, checkList}
 use Rattle.leaves.proofs.Listed.{columns-sound, listed-passed, listed-refused}
 use Rattle.columns.specs.Laying.{Room}
 use Rattle.adaption.specs.Adaption.{adapted}
-use Rattle.adaption.specs.Calls.{marked, adapt, Adapted}
+use Rattle.marks.specs.Marks.{marked, checkMarks}
+use Rattle.adaption.specs.Calls.{adapt, Adapted}
 use Rattle.adaption.specs.Inner.{Ready}
-use Rattle.adaption.proofs.Marked.{marked-passed, marked-refused}
+use Rattle.marks.proofs.Marked.{check-is, marked-passed, marked-refused}
 use Rattle.adaption.proofs.Readiness.{ready}
 
 and-false : (a : Bool) → (a && false) ≡ false
@@ -62,13 +63,19 @@ module _ (k : ℕ) (cs : Columns) (ms : List ℕ) (m : Columns) where
       onward : call ≡ marked 21 (cs .levels) ms (refuse-when (ltb limit (length result)) 15 (roomFor (length result) (room m) result))
       onward = fitting _ ∙ listed-passed 8 21 k true true cs _ sound
 
-      pub list-valid : ValidList 8 21 k cs
+      list-valid : ValidList 8 21 k cs
       list-valid = columns-sound 8 21 k true true cs sound
 
-      pub marks-refused : (fault spot : ℕ) → marked 21 (cs .levels) ms passed ≡ refused fault spot → call ≡ refused fault spot
-      marks-refused fault spot h = onward ∙ marked-refused 21 (cs .levels) ms _ fault spot h
+      checked : checkMarks 21 (cs .levels) ms ≡ marked 21 (cs .levels) ms passed
+      checked = check-is 21 (cs .levels) ms (sym (list-valid .levels-long) ∙ long)
 
-      module _ (marks-right : marked 21 (cs .levels) ms passed ≡ passed) where
+      pub marks-refused : (fault spot : ℕ) → checkMarks 21 (cs .levels) ms ≡ refused fault spot → call ≡ refused fault spot
+      marks-refused fault spot h = onward ∙ marked-refused 21 (cs .levels) ms _ fault spot (sym checked ∙ h)
+
+      module _ (right : checkMarks 21 (cs .levels) ms ≡ passed) where
+        marks-right : marked 21 (cs .levels) ms passed ≡ passed
+        marks-right = sym checked ∙ right
+
         pub list-ready : Ready 8 cs ms
         list-ready = ready 3 21 k (omega arith) (omega arith) cs ms list-valid long marks-right
 

@@ -11,7 +11,8 @@ use lib.ListN.{length, getD}
 use borrow.Author.Tests.{eq-eqb, ne-eqb}
 use Rattle.leaves.specs.Leaves.{Leaf, nth, Columns, leafAt, leaves, room}
 use Rattle.leaves.proofs.Columns.{nth-leaves, leaves-length}
-use Rattle.adaption.specs.Adaption.{mark, merging}
+use Rattle.marks.specs.Marks.{mark}
+use Rattle.adaption.specs.Adaption.{merging}
 use Rattle.adaption.specs.Inner.{turn, Ready}
 use Rattle.adaption.specs.Laws.{Merging}
 use Rattle.adaption.proofs.Family.{merging-is, is-merging, number-in, not-so}

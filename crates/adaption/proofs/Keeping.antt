@@ -13,7 +13,8 @@ use lib.Seq.{take-suc, length-take-le, take-at, drop-at, getD-append-add, split-
 use Rattle.paper.proofs.Scan.{rows-length}
 use Rattle.leaves.specs.Leaves.{Leaf, nth, leaf}
 use Rattle.leaves.proofs.Columns.{getD-rows}
-use Rattle.adaption.specs.Adaption.{mark, child, parent, childrenOf, merging, joined, gives, adapted}
+use Rattle.marks.specs.Marks.{mark}
+use Rattle.adaption.specs.Adaption.{child, parent, childrenOf, merging, joined, gives, adapted}
 use Rattle.adaption.specs.Laws.{Merging, Marked}
 use Rattle.adaption.proofs.Family.{merging-is}
 use Rattle.adaption.proofs.Turns.{from, Clear, from-end, from-refined, from-merged, from-kept, clear-refined, clear-merged, clear-kept}

@@ -18,11 +18,12 @@ use Rattle.leaves.proofs.Listed.{listed-accepted}
 use Rattle.leaves.proofs.Entries.{leaves-of-columns}
 use Rattle.leaves.proofs.UniformValid.{uniform-valid}
 use Rattle.adaption.specs.Adaption.{adapted}
-use Rattle.adaption.specs.Calls.{marked, adapt}
+use Rattle.marks.specs.Marks.{marked}
+use Rattle.adaption.specs.Calls.{adapt}
 use Rattle.adaption.specs.Laws.{OnePass, Refinable, Begun, Step, Reached, Promised}
 use Rattle.adaption.proofs.Family.{merging-is, is-merging}
 use Rattle.adaption.proofs.Gives.{gives-refined, gives-merged, gives-younger, gives-kept}
-use Rattle.adaption.proofs.Marked.{marked-accepted, refined-above}
+use Rattle.marks.proofs.Marked.{marked-accepted, refined-above}
 use Rattle.adaption.proofs.Validity.{adapted-valid}
 use Rattle.adaption.proofs.Keeping.{unmarked-stays, refined-undone}
 

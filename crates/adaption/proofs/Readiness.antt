@@ -13,10 +13,9 @@ use Rattle.leaves.specs.Laws.{ValidList}
 use Rattle.leaves.proofs.Columns.{nth-leaves, leaves-length}
 use Rattle.leaves.proofs.Shift.{position-lt}
 use Rattle.leaves.proofs.Entries.{level-at, position-at}
-use Rattle.adaption.specs.Adaption.{mark}
-use Rattle.adaption.specs.Calls.{marked}
+use Rattle.marks.specs.Marks.{mark, marked}
 use Rattle.adaption.specs.Inner.{Ready}
-use Rattle.adaption.proofs.Marked.{refined-above, mark-known}
+use Rattle.marks.proofs.Marked.{refined-above, mark-known}
 use Rattle.adaption.proofs.Siblings.{are-siblings}
 
 -- ---- 2^b children

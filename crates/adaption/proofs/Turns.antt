@@ -11,7 +11,8 @@ use native.Mathlib.Omega.{arith}
 use lib.ListN.{length}
 use borrow.Author.Tests.{eq-eqb, ne-eqb}
 use Rattle.leaves.specs.Leaves.{Leaf, nth, leaf}
-use Rattle.adaption.specs.Adaption.{mark, joined, childrenOf, parent, merging, gives}
+use Rattle.marks.specs.Marks.{mark}
+use Rattle.adaption.specs.Adaption.{joined, childrenOf, parent, merging, gives}
 use Rattle.adaption.specs.Inner.{turn, gain, stride, newLevel, newPosition, made}
 use Rattle.columns.specs.Laying.{stretch}
 use Rattle.adaption.specs.Laws.{Merging}

@@ -10,7 +10,6 @@
 --   made vs ms i     what the turn at leaf i makes
 --   Ready cs ms      what the pass needs of a list and its marks: columns of one length, no mark above 2; n leaves of one level, from a
 --                    position divisible by n on, are a family; no level or position that it makes is too large for its type
---   Faultless        the contract of the loop over the marks: its answer is 0 only where the first k marks have no fault
 --
 -- Assumes nothing.
 use mathlib.Core.Path.{_≡_}
@@ -22,8 +21,8 @@ use lib.ListN.{length}
 use Rattle.leaves.specs.Leaves.{Leaf, nth, Columns, leafAt, leaves, room}
 use Rattle.leaves.specs.Calls.{limit}
 use Rattle.columns.specs.Laying.{stretch}
-use Rattle.adaption.specs.Adaption.{mark, child, parent, merging}
-use Rattle.adaption.specs.Calls.{markFault, depthFault}
+use Rattle.marks.specs.Marks.{mark}
+use Rattle.adaption.specs.Adaption.{child, parent, merging}
 
 abbrev pub newLevel : ℕ → ℕ → ℕ
 newLevel t l = cond (eqb t 1) (l + 1) (cond (eqb t 2) (l - 1) l)
@@ -57,6 +56,3 @@ module _ (n : ℕ) where
     pub low : (i : ℕ) → i < room cs → leafAt cs i .position < 2 ^ 63
     pub shallow : (i : ℕ) → i < room cs → mark ms i ≡ 1 → leafAt cs i .level < 255
     pub narrow : (i : ℕ) → i < room cs → mark ms i ≡ 1 → n * leafAt cs i .position + n ≤ 2 ^ 63
-
-abbrev pub Faultless : ℕ → List ℕ → List ℕ → ℕ → ℕ → Type 0
-Faultless L ls ms k r = r ≡ 0 → (j : ℕ) → j < k → (markFault ms j ≡ 0) × (depthFault L ls ms j ≡ 0)

@@ -23,7 +23,8 @@ use Rattle.tree.specs.Words as words
 use Rattle.leaves.specs.Leaves.{Leaf, nth, Columns, columnsOf, Valid}
 use Rattle.leaves.specs.Calls.{uniform}
 use Rattle.leaves.specs.Cells.{elementOf, Proper}
-use Rattle.adaption.specs.Adaption.{mark, child, parent, childrenOf, family, merging, gives, adapted}
+use Rattle.marks.specs.Marks.{mark}
+use Rattle.adaption.specs.Adaption.{child, parent, childrenOf, family, merging, gives, adapted}
 use Rattle.adaption.specs.Calls.{adapt}
 
 pub record Marked (ms : List ℕ) (m i k N : ℕ) : Type 0 where

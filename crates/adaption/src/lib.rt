@@ -5,7 +5,6 @@ use paper::PassAnswer;
 ghost use Rattle.leaves.specs.Leaves.{columns};
 ghost use Rattle.adaption.specs.Calls.{Adapted};
 
-mod marks;
 mod pass;
 mod run;
 mod turn;
@@ -38,7 +37,7 @@ pub fn adapt(
     if let PassAnswer::Refused(number, place) = leaves::check_list(k, roots, levels, positions) {
         return NumberAnswer::Refused(number, place);
     }
-    let fault = marks::fault(tree::HIGHEST, levels, marks);
+    let fault = marks::check(tree::HIGHEST, levels, marks);
     if fault.number != 0 {
         return NumberAnswer::Refused(fault.number, fault.place);
     }

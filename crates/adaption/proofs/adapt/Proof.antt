@@ -7,7 +7,7 @@ use Rattle.paper.specs.Outcome.{passed}
 use Rattle.paper.specs.Readings.{passOf}
 use Rattle.paper.proofs.Scan.{fault-taken, fault-none}
 use Rattle.leaves.specs.Leaves.{columns}
-use Rattle.adaption.proofs.Adapting.{not-adapted, roots-17, marks-11, columns-11, leaves-refused, list-valid, marks-refused, list-ready, too-many-15, no-room-14, room-for-all, is-adapted}
+use Rattle.adaption.proofs.Adapting.{not-adapted, roots-17, marks-11, columns-11, leaves-refused, marks-refused, list-ready, too-many-15, no-room-14, room-for-all, is-adapted}
 use Rattle.adaption.proofs.adapt.Statement.{statement}
 use Rattle.adaption.proofs.adapt.Tie as tie
 
@@ -59,16 +59,8 @@ returns-4 c =
 enum-told : tie.Need-enum-told
 enum-told c = search needs
 
-fault-requires : tie.Need-fault-requires
-fault-requires c κs =
-    let told = c in
-    let a = told .before .before .before .before .before .before .before .before .before .before .before .before .before .before .before .args in
-    let cs = columns (a .roots .now) (a .levels .now) (a .positions .now) in
-    let m = columns (a .new-roots .now) (a .new-levels .now) (a .new-positions .now) in
-    let long = told .before .before .before .before .before .if2 .left in
-    let equal = sym (told .before .before .before .before .equal-lengths .ensures) ∙ not-false (told .before .before .before .before .equal-lengths .result) (told .before .before .before .if3 .left) in
-    let sound = sym (told .before .before .check-list .ensures) ∙ ap passOf (told .enum-told .given .1) in
-    sym (list-valid (a .k) cs (a .marks .now) m long equal sound .levels-long) ∙ long
+check-requires : tie.Need-check-requires
+check-requires c κs = search needs
 
 returns-5 : tie.Need-returns-5
 returns-5 c =
@@ -79,7 +71,7 @@ returns-5 c =
     let long = told .before .before .before .before .before .if2 .left in
     let equal = sym (told .before .before .before .before .equal-lengths .ensures) ∙ not-false (told .before .before .before .before .equal-lengths .result) (told .before .before .before .if3 .left) in
     let sound = sym (told .before .before .check-list .ensures) ∙ ap passOf (told .enum-told .given .1) in
-    let judged = c .before .before .fault in
+    let judged = c .before .before .check in
     not-adapted (a .k) cs (a .marks .now) m _ _ (marks-refused (a .k) cs (a .marks .now) m long equal sound _ _
     (sym (judged .ensures) ∙ fault-taken (judged .result .number) (judged .result .place) passed (c .if4 .taken)))
 
@@ -92,7 +84,7 @@ count-requires c κs =
     let long = told .before .before .before .before .before .if2 .left in
     let equal = sym (told .before .before .before .before .equal-lengths .ensures) ∙ not-false (told .before .before .before .before .equal-lengths .result) (told .before .before .before .if3 .left) in
     let sound = sym (told .before .before .check-list .ensures) ∙ ap passOf (told .enum-told .given .1) in
-    let judged = c .before .before .fault in
+    let judged = c .before .before .check in
     let right = sym (judged .ensures) ∙ fault-none (judged .result .number) (judged .result .place) passed (c .if4 .left) in
     (omega arith, list-ready (a .k) cs (a .marks .now) m long equal sound right)
 
@@ -105,7 +97,7 @@ returns-6 c =
     let long = told .before .before .before .before .before .if2 .left in
     let equal = sym (told .before .before .before .before .equal-lengths .ensures) ∙ not-false (told .before .before .before .before .equal-lengths .result) (told .before .before .before .if3 .left) in
     let sound = sym (told .before .before .check-list .ensures) ∙ ap passOf (told .enum-told .given .1) in
-    let judged = c .before .before .before .before .fault in
+    let judged = c .before .before .before .before .check in
     let right = sym (judged .ensures) ∙ fault-none (judged .result .number) (judged .result .place) passed (c .before .before .if4 .left) in
     not-adapted (a .k) cs (a .marks .now) m 15 0
     (too-many-15 (a .k) cs (a .marks .now) m long equal sound right (c .before .count .result) (c .before .count .ensures) (c .if5 .taken))
@@ -119,7 +111,7 @@ returns-7 c =
     let long = told .before .before .before .before .before .if2 .left in
     let equal = sym (told .before .before .before .before .equal-lengths .ensures) ∙ not-false (told .before .before .before .before .equal-lengths .result) (told .before .before .before .if3 .left) in
     let sound = sym (told .before .before .check-list .ensures) ∙ ap passOf (told .enum-told .given .1) in
-    let judged = c .before .before .before .before .before .fault in
+    let judged = c .before .before .before .before .before .check in
     let right = sym (judged .ensures) ∙ fault-none (judged .result .number) (judged .result .place) passed (c .before .before .before .if4 .left) in
     not-adapted (a .k) cs (a .marks .now) m 14 _
     (no-room-14 (a .k) cs (a .marks .now) m long equal sound right (c .before .before .count .result) (c .before .before .count .ensures) (c .before .if5 .left) (c .if6 .taken))
@@ -133,7 +125,7 @@ write-requires c κs =
     let long = told .before .before .before .before .before .if2 .left in
     let equal = sym (told .before .before .before .before .equal-lengths .ensures) ∙ not-false (told .before .before .before .before .equal-lengths .result) (told .before .before .before .if3 .left) in
     let sound = sym (told .before .before .check-list .ensures) ∙ ap passOf (told .enum-told .given .1) in
-    let judged = c .before .before .before .before .before .before .before .before .fault in
+    let judged = c .before .before .before .before .before .before .before .before .check in
     let right = sym (judged .ensures) ∙ fault-none (judged .result .number) (judged .result .place) passed (c .before .before .before .before .before .before .if4 .left) in
     let counted = c .before .before .before .before .before .count in (
       omega arith,
@@ -161,7 +153,7 @@ returns-8 c =
     let long = told .before .before .before .before .before .if2 .left in
     let equal = sym (told .before .before .before .before .equal-lengths .ensures) ∙ not-false (told .before .before .before .before .equal-lengths .result) (told .before .before .before .if3 .left) in
     let sound = sym (told .before .before .check-list .ensures) ∙ ap passOf (told .enum-told .given .1) in
-    let judged = c .before .before .before .before .before .before .before .before .before .before .before .before .before .before .before .fault in
+    let judged = c .before .before .before .before .before .before .before .before .before .before .before .before .before .before .before .check in
     let right = sym (judged .ensures) ∙ fault-none (judged .result .number) (judged .result .place) passed (c .before .before .before .before .before .before .before .before .before .before .before .before .before .if4 .left) in
     let counted = c .before .before .before .before .before .before .before .before .before .before .before .before .count in
     is-adapted (a .k) cs (a .marks .now) m long equal sound right (counted .result) (counted .ensures) (c .before .before .before .before .before .before .before .before .before .before .before .if5 .left) (c .before .before .before .before .before .before .before .before .before .before .if6 .left) _
@@ -180,7 +172,7 @@ adapt-spec =
     enum-known-number
     returns-4
     enum-told
-    fault-requires
+    check-requires
     returns-5
     count-requires
     returns-6

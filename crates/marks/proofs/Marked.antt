@@ -10,10 +10,13 @@ use borrow.Author.Tests.{leb-false, ltb-false, eq-eqb}
 use Rattle.paper.specs.Outcome.{Outcome, accepted, refused, passed}
 use Rattle.paper.proofs.Tests.{no-fault}
 use Rattle.paper.proofs.Scan.{scan-passed, scan-accepted, scan-carry, scan-refused, scan-all}
-use Rattle.adaption.specs.Adaption.{mark}
-use Rattle.adaption.specs.Calls.{markFault, depthFault, numbers, marked}
+use Rattle.marks.specs.Marks.{mark, markFault, depthFault, numbers, marked, checkMarks}
 
 module _ (L : ℕ) (ls ms : List ℕ) where
+  -- the check alone, where the marks are as many as the levels
+  pub check-is : length ls ≡ length ms → checkMarks L ls ms ≡ marked L ls ms passed
+  check-is long = simp (eq-eqb (length ls) (length ms) long)
+
   module _ {A : Type 0} (rest : Outcome A) where
     pub marked-passed : marked L ls ms passed ≡ passed → marked L ls ms rest ≡ rest
     marked-passed h =
