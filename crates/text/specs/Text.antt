@@ -23,7 +23,8 @@ use mathlib.Core.List.{List, [], _∷_, _++_, map}
 use Prim.Native.Nat.{ℕ, zero, suc, _+_, _-_, _/_, _%_}
 use lib.Dec.{ltb}
 use Rattle.paper.specs.Outcome.{Outcome, accepted, refused, rows}
-use Rattle.leaves.specs.Leaves.{Leaf, uniform}
+use Rattle.tree.specs.Anchors.{HIGHEST}
+use Rattle.leaves.specs.Leaves.{CHILDREN, Leaf, uniformList}
 use Rattle.shares.specs.Shares.{boundary}
 use Rattle.forms.specs.declared.Form.{Form}
 use Rattle.fields.specs.Fields.{lf}
@@ -95,7 +96,7 @@ abbrev pub shareLines : (ℕ → ℕ) → ℕ → List ℕ
 shareLines start P = joined (rows (λ s. shareLine s (start s) (start (s + 1))) 0 P)
 
 abbrev pub weights : Form → List ℕ
-weights f = map (λ (v : Leaf). 1) (uniform 8 21 (f .roots) (f .level))
+weights f = map (λ (v : Leaf). 1) (uniformList CHILDREN HIGHEST (f .roots) (f .level))
 
 abbrev pub refusalLine : ℕ → ℕ → List ℕ
 refusalLine number field = entry wordRefused number blank ++ entry wordField field lf
