@@ -21,6 +21,8 @@ use Prim.Native.Nat.{ℕ, _-_, _*_, _^_}
 use lib.Dec.{eqb, leb, ltb}
 use lib.ListN.{length, getD}
 use Rattle.paper.specs.Outcome.{Outcome, accepted, refused, refuse-when-at, fault-when, scan, rows}
+use Rattle.tree.specs.Anchors.{HIGHEST}
+use Rattle.leaves.specs.Leaves.{CHILDREN}
 use Rattle.leaves.specs.Calls.{limit, outOfRange}
 use Rattle.fields.specs.Fields.{fields, ended, isNumber, value}
 use Rattle.forms.specs.declared.Form.{Form}
@@ -44,10 +46,10 @@ numberIn fs i = value (given fs i)
 abbrev pub outside : ℕ → ℕ → ℕ → ℕ → ℕ
 outside i v K L =
     fault-when (eqb i 4 && outOfRange v) 17
-    (fault-when (eqb i 5 && ltb 21 v) 1
+    (fault-when (eqb i 5 && ltb HIGHEST v) 1
     (fault-when (eqb i 6 && outOfRange v) 17
     (fault-when (eqb i 7 && ltb L v) 23
-    (fault-when (eqb i 7 && ltb limit (K * 8 ^ v)) 15 0))))
+    (fault-when (eqb i 7 && ltb limit (K * CHILDREN ^ v)) 15 0))))
 
 abbrev pub numberFault : Bool → List ℕ → ℕ → ℕ
 numberFault missing f rest = fault-when missing 23 (fault-when (not (isNumber f)) 23 rest)
@@ -63,7 +65,7 @@ formIn fs =
       model = numberIn fs 3;
       roots = numberIn fs 4;
       level = numberIn fs 7;
-      leaves = numberIn fs 4 * 8 ^ numberIn fs 7;
+      leaves = numberIn fs 4 * CHILDREN ^ numberIn fs 7;
       shares = numberIn fs 6;
     }
 

@@ -3,14 +3,18 @@ ghost use mathlib.Core.Path.{_≡_};
 ghost use Prim.Native.Nat.{_*_, _^_};
 ghost use lib.Dec.{ltb};
 ghost use Rattle.paper.specs.Outcome.{fault-when};
+ghost use Rattle.leaves.specs.Leaves.{CHILDREN};
 ghost use Rattle.leaves.specs.Calls.{limit, outOfRange};
 ghost use Rattle.forms.specs.Forms.{outside as Forms·outside};
 
 // The most roots, and the most shares.
-const MOST: u64 = 4096;
+const MOST: u64 = leaves::MOST as u64;
 
 // The most leaves of a list.
-const LIMIT: u64 = 1048576;
+const LIMIT: u64 = leaves::LIMIT as u64;
+
+// The highest level of a prism.
+const HIGHEST: u64 = tree::HIGHEST as u64;
 
 // A number of roots or shares: 17 outside 1 to 4,096.
 fn count_fault(v: u64) -> u8
@@ -27,7 +31,7 @@ fn count_fault(v: u64) -> u8
 
 // Whether k roots have too many leaves at a level.
 fn too_many(k: u64, level: u64) -> bool
-    ensures { λ r. ⌜ r ≡ ltb limit (k * 8 ^ level) ⌝ }
+    ensures { λ r. ⌜ r ≡ ltb limit (k * CHILDREN ^ level) ⌝ }
 {
     if k == 0 {
         return false;
@@ -40,7 +44,7 @@ fn too_many(k: u64, level: u64) -> bool
 
 // The initial level v of k roots: 23 above the highest level, 15 for too many leaves.
 fn level_fault(v: u64, k: u64, highest: u64) -> u8
-    ensures { λ r. ⌜ r ≡ fault-when (ltb highest v) 23 (fault-when (ltb limit (k * 8 ^ v)) 15 0) ⌝ }
+    ensures { λ r. ⌜ r ≡ fault-when (ltb highest v) 23 (fault-when (ltb limit (k * CHILDREN ^ v)) 15 0) ⌝ }
 {
     if highest < v {
         return 23;
@@ -59,7 +63,7 @@ pub(crate) fn outside(i: usize, v: u64, k: u64, highest: u64) -> u8
         return count_fault(v);
     }
     if i == 5 {
-        return if 21 < v { 1 } else { 0 };
+        return if HIGHEST < v { 1 } else { 0 };
     }
     if i == 6 {
         return count_fault(v);

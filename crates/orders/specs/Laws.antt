@@ -1,7 +1,7 @@
 -- What is promised of the order program, as statements. Definitions only.
 --
---   SameShares f   `printed` prints the boundaries of all weights 1; on the columns of the uniform start the list's own call for shares
---                  passes with these weights, and so writes the same boundaries; they are the thesis's formula 27
+--   SameShares f   `printed` prints the boundaries of all weights 1; on the columns of the uniform start, with these weights and a column
+--                  that is long enough, the list's own call for shares accepts with the same boundaries; they are the thesis's formula 27
 --   Promised       the first 71 bytes decide the output; an accepted order has the numbers of its fields, and those printed are the fields
 --                  themselves, byte for byte; its shares are the list's; and no output is longer than 86,212 bytes
 --
@@ -27,7 +27,7 @@ started f = uniformList CHILDREN HIGHEST (f .roots) (f .level)
 
 pub record SameShares (f : Form) : Type 0 where
   pub leaf-count : f .leaves ≡ length (started f)
-  pub call-passes : (column : List ℕ) → f .shares + 1 ≤ length column
+  pub call-accepts : (column : List ℕ) → f .shares + 1 ≤ length column
       → shares CHILDREN HIGHEST (f .roots) (f .shares) (columnsOf (started f)) (weights f) column ≡ accepted (boundaries (f .shares) (weights f))
   pub formula-27 : (s : ℕ) → s ≤ f .shares → boundary (f .shares) (weights f) s ≡ s * f .leaves / f .shares
 
