@@ -18,7 +18,7 @@ use Rattle.prism.specs.Points as prisms
 use Rattle.prism.proofs.Laws.{grids}
 use Rattle.corners.specs.declared.work.Local.{Local}
 use Rattle.corners.specs.Laws.{InsideRoot}
-use Rattle.corners.specs.Steps.{CornerRow, localOf}
+use Rattle.corners.specs.Inner.{CornerRow, localOf}
 
 -- what the checks on an element leave room for
 pub record Room (e : Prism) (h : ℕ) : Type 0 where

@@ -15,7 +15,7 @@ ghost use Rattle.prism.specs.Elements.{CORNERS, prism};
 ghost use Rattle.prism.specs.Points as prisms;
 ghost use Rattle.corners.specs.CornerPoints.{within, allWithin, rootWithin, q, coordinate, pointAt};
 ghost use Rattle.corners.specs.Laws.{InsideRoot};
-ghost use Rattle.corners.specs.Steps.{along, Near, Heights, mix, blend, xs, ys, zs, CornerRow, localOf, cornerOf};
+ghost use Rattle.corners.specs.Inner.{along, Near, Heights, mix, blend, xs, ys, zs, CornerRow, localOf, cornerOf};
 
 // One coordinate of a root's six corners.
 pub(crate) struct Axis {

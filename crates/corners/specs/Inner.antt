@@ -1,4 +1,4 @@
--- The steps of the call: what its own functions ask and answer. Definitions only.
+-- Inner contracts: what the code's own functions ask and answer. A reader of the promises may skip this file.
 --
 --   Axis            one coordinate of a root's six corners; along a j is its vj; xs, ys, zs are a root's three
 --   Local           local (X, Y, Z); localOf and cornerOf go from the prism's corner to it and back
