@@ -16,14 +16,15 @@ use Rattle.leaves.specs.Leaves.{Leaf, leaves, rootsOf, levelsOf, positionsOf}
 use Rattle.leaves.specs.Calls.{equalColumns}
 use Rattle.leaves.proofs.Listed.{listed-accepted}
 use Rattle.leaves.proofs.Entries.{leaves-of-columns}
-use Rattle.gridfile.specs.File.{fileOf}
-use Rattle.gridfile.specs.Reading.{Grid, gridAt, reading}
-use Rattle.gridfile.specs.Readings.{Size, size, gridOf}
-use Rattle.gridfile.specs.Calls.{sized, sizeOf, leavesIn, FileWritten, FileRead}
+use Rattle.format.specs.File.{fileOf}
+use Rattle.format.specs.Reading.{Grid, gridAt}
+use Rattle.reader.specs.Calls.{reading, sizeOf, leavesIn, FileRead}
+use Rattle.reader.specs.Answers.{Size, size, gridOf}
+use Rattle.writer.specs.Calls.{sized, FileWritten}
 use Rattle.gridfile.specs.Laws.{InMemory}
-use Rattle.gridfile.specs.declared.GridAnswer.{GridAnswer}
-use Rattle.gridfile.proofs.Taking.{accepted-same, mapped-accepted}
-use Rattle.gridfile.proofs.OneFile.{read-grid}
+use Rattle.reader.specs.declared.GridAnswer.{GridAnswer}
+use Rattle.format.proofs.Taking.{accepted-same, mapped-accepted}
+use Rattle.gridfile.proofs.RoundTrip.{read-grid}
 
 -- so many entries of a column with a result of that length at its front
 front-of : {A : Type 0} (o : Outcome A) (a : A) (xs l l′ : List ℕ) (m : ℕ) → o ≡ accepted a → l′ ≡ lent o xs l → length xs ≡ m → take m l′ ≡ xs

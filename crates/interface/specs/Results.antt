@@ -31,10 +31,10 @@ use Rattle.adaption.specs.Calls.{adaption}
 use Rattle.shares.specs.Shares.{boundaries}
 use Rattle.shares.specs.Calls.{shares}
 use Rattle.leaves.specs.Leaves as leaves
-use Rattle.gridfile.specs.File.{fileOf}
-use Rattle.gridfile.specs.Reading.{reading}
-use Rattle.gridfile.specs.Readings.{Size, size}
-use Rattle.gridfile.specs.Calls.{writing, sizeOf, leavesIn}
+use Rattle.format.specs.File.{fileOf}
+use Rattle.reader.specs.Calls.{reading, sizeOf, leavesIn}
+use Rattle.reader.specs.Answers.{Size, size}
+use Rattle.writer.specs.Calls.{writing}
 use Rattle.interface.specs.declared.LineResult.{LineResult}
 use Rattle.interface.specs.declared.TriangleResult.{TriangleResult}
 use Rattle.interface.specs.declared.PrismResult.{PrismResult}

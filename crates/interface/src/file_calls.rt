@@ -15,7 +15,7 @@ pub extern "C" fn gw_file_write(
 ) -> NumberResult
     ensures { λ r. ⌜ WriteResult k r (now (roots .entry)) (now (levels .entry)) (now (positions .entry)) (now (bytes .entry)) (now (bytes .exit)) ⌝ }
 {
-    results::of_number(gridfile::write(k, roots, levels, positions, bytes))
+    results::of_number(writer::write(k, roots, levels, positions, bytes))
 }
 
 // The leaves of a file, at the front of the columns.
@@ -28,5 +28,5 @@ pub extern "C" fn gw_file_read(
 ) -> GridResult
     ensures { λ r. ⌜ ReadResult r (now (bytes .entry)) (now (roots .entry)) (now (levels .entry)) (now (positions .entry)) (now (roots .exit)) (now (levels .exit)) (now (positions .exit)) ⌝ }
 {
-    results::of_grid(gridfile::read(bytes, roots, levels, positions))
+    results::of_grid(reader::read(bytes, roots, levels, positions))
 }

@@ -8,7 +8,6 @@ use crate::PrismResult;
 use crate::TriangleResult;
 use corners::Point;
 use corners::PointAnswer;
-use gridfile::GridAnswer;
 use line::Line;
 use line::LineAnswer;
 use paper::CompareAnswer;
@@ -17,6 +16,7 @@ use paper::PassAnswer;
 use paper::TruthAnswer;
 use prism::Prism;
 use prism::PrismAnswer;
+use reader::GridAnswer;
 use triangle::Triangle;
 use triangle::TriangleAnswer;
 ghost use mathlib.Core.Path.{_≡_};
@@ -26,7 +26,7 @@ ghost use Rattle.corners.specs.CornerPoints.{pointOf};
 ghost use Rattle.line.specs.Elements as lines;
 ghost use Rattle.triangle.specs.Elements as triangles;
 ghost use Rattle.prism.specs.Elements as prisms;
-ghost use Rattle.gridfile.specs.Readings.{gridOf};
+ghost use Rattle.reader.specs.Answers.{gridOf};
 ghost use Rattle.interface.specs.Results.{lineResult, triangleResult, prismResult, numberResult, truthResult, compareResult, passResult, gridResult, pointResult};
 
 // The word of a refusal.

@@ -7,7 +7,7 @@ use Rattle.paper.specs.Memory.{lent}
 use Rattle.paper.specs.Readings.{valueOf, passOf}
 use Rattle.leaves.specs.Leaves.{Leaf, rootsOf, levelsOf, positionsOf}
 use Rattle.leaves.specs.Calls.{Columns}
-use Rattle.gridfile.specs.Readings.{gridOf}
+use Rattle.reader.specs.Answers.{gridOf}
 use Rattle.promises.specs.Demand1.{Three, OfCalls}
 use Rattle.promises.specs.Demand2.{Determined}
 use Rattle.promises.proofs.Demand2.{of-elements}

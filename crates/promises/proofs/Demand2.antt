@@ -48,14 +48,16 @@ use Rattle.paper.specs.declared.NumberAnswer.the-variants as number-answer
 use Rattle.paper.specs.declared.TruthAnswer.the-variants as truth-answer
 use Rattle.paper.specs.declared.CompareAnswer.the-variants as order-answer
 use Rattle.paper.specs.declared.PassAnswer.the-variants as pass-answer
-use Rattle.gridfile.specs.Numbers.{Read}
-use Rattle.gridfile.specs.Readings.{Size, readOf, gridOf}
-use Rattle.gridfile.specs.declared.NumberRead.{NumberRead}
-use Rattle.gridfile.specs.declared.NumberRead.the-variants as number-read
-use Rattle.gridfile.specs.declared.GridAnswer.{GridAnswer}
-use Rattle.gridfile.specs.declared.GridAnswer.the-variants as grid-answer
-use Rattle.gridfile.proofs.Coded.{codec}
-use Rattle.gridfile.proofs.OneFile.{one-file, round-trip}
+use Rattle.numbers.specs.Numbers.{Read}
+use Rattle.reader.specs.Answers.{Size, gridOf}
+use Rattle.numbers.specs.Answers.{readOf}
+use Rattle.numbers.specs.declared.NumberRead.{NumberRead}
+use Rattle.numbers.specs.declared.NumberRead.the-variants as number-read
+use Rattle.reader.specs.declared.GridAnswer.{GridAnswer}
+use Rattle.reader.specs.declared.GridAnswer.the-variants as grid-answer
+use Rattle.numbers.proofs.Coded.{codec}
+use Rattle.format.proofs.OneFile.{one-file}
+use Rattle.gridfile.proofs.RoundTrip.{round-trip}
 use Rattle.gridfile.proofs.InMemory.{in-memory}
 use Rattle.orders.proofs.Promised as orders-laws
 use Rattle.corners.specs.CornerPoints.{pointOf}

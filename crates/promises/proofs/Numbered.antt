@@ -7,7 +7,7 @@ use native.Mathlib.Omega.{arith}
 use lib.Dec.{leb, ltb, eqb}
 use lib.ListN.{length, getD}
 use borrow.Author.Tests.{not-true, eqb-false, leb-true}
-use Rattle.paper.specs.Outcome.{Outcome, accepted, refused, passed, refuse-when-at, fault-when, mapped, scan, rows}
+use Rattle.paper.specs.Outcome.{Outcome, accepted, refused, passed, refuse-when-at, fault-when, mapped, scan, rows, and-then}
 use Rattle.paper.proofs.Scan.{never}
 use Rattle.tree.specs.Shape.{Shape}
 use Rattle.leaves.specs.Leaves.{Leaf, leaves, Spot, spotAt, endOf}
@@ -16,9 +16,10 @@ use Rattle.balance.specs.Balance.{balanced}
 use Rattle.adaption.specs.Adaption.{mark, adapted}
 use Rattle.adaption.specs.Calls.{markFault, depthFault, numbers, marked}
 use Rattle.shares.specs.Calls.{weightFault}
-use Rattle.gridfile.specs.File.{fileOf}
-use Rattle.gridfile.specs.Numbers.{read, byteAt, numberAt}
-use Rattle.gridfile.specs.Reading.{and-then, opens, head, afterRuns, afterRoots, headAt, fits, leavesOf, after, runRead, afterCount, afterLevel, runAt, runsAt, headed, gridAt, fitted}
+use Rattle.format.specs.File.{fileOf}
+use Rattle.numbers.specs.Numbers.{read, byteAt, numberAt}
+use Rattle.format.specs.Reading.{opens, head, afterRuns, afterRoots, headAt, fits, leavesOf, after, runRead, afterCount, afterLevel, runAt, runsAt, headed, gridAt}
+use Rattle.reader.specs.Calls.{fitted}
 use Rattle.corners.specs.declared.Root.{Root}
 use Rattle.corners.specs.CornerPoints.{rootWithin, cornerPoint}
 use Rattle.orders.specs.Fields.{fields, ended, isNumber, given, number}
@@ -27,7 +28,7 @@ use Rattle.orders.specs.Orders as orders
 use Rattle.tree.specs.Words
 use Rattle.tree.specs.Calls as calls
 use Rattle.leaves.specs.Calls as lists
-use Rattle.gridfile.specs.Calls as files
+use Rattle.writer.specs.Calls as files
 use Rattle.promises.specs.Demand1.{Numbered, OnElements, OnLists}
 
 -- a number of the paper
@@ -219,7 +220,7 @@ field-few fs i =
 pub order-said : (input : List ℕ) → Numbered (orders.decided input)
 order-said input =
     in-turn (orders.fault (fields input)) (field-few (fields input)) 1 (rows (λ i. i) 1 7) _
-    (when (not (eqb (length (fields input)) 7 && ended input)) 23 8 refl (fine (orders.comparisonOf (fields input))))
+    (when (not (eqb (length (fields input)) 7 && ended input)) 23 8 refl (fine (orders.orderIn (fields input))))
 
 pub printed-said : (input : List ℕ) (room : ℕ) → Numbered (answered input room)
 printed-said input room = when (ltb room (length (output input))) 14 (length (output input)) refl (fine (length (output input)))

@@ -6,8 +6,8 @@ use Rattle.prism.specs.Elements.{prismTo, neighbour}
 use Rattle.adaption.specs.Adaption.{every, joined}
 use Rattle.shares.specs.Shares.{total, largest}
 use Rattle.leaves.specs.Calls.{walked}
-use Rattle.gridfile.specs.File.{runsOf, runBytes}
-use Rattle.gridfile.specs.Reading.{fits, leavesOf, after, runsAt}
+use Rattle.format.specs.File.{runsOf, runBytes}
+use Rattle.format.specs.Reading.{fits, leavesOf, after, runsAt}
 use Rattle.promises.specs.Starred.{AllHold, starred}
 
 pub starred-hold : AllHold starred

@@ -24,9 +24,10 @@ use Rattle.paper.specs.declared.PassAnswer.{PassAnswer}
 use Rattle.leaves.specs.Start.{Started}
 use Rattle.adaption.specs.Calls.{Adapted}
 use Rattle.shares.specs.Calls.{Shared}
-use Rattle.gridfile.specs.Readings.{gridOf}
-use Rattle.gridfile.specs.Calls.{FileWritten, FileRead}
-use Rattle.gridfile.specs.declared.GridAnswer.{GridAnswer}
+use Rattle.reader.specs.Answers.{gridOf}
+use Rattle.writer.specs.Calls.{FileWritten}
+use Rattle.reader.specs.Calls.{FileRead}
+use Rattle.reader.specs.declared.GridAnswer.{GridAnswer}
 use Rattle.corners.specs.declared.Root.{Root}
 use Rattle.corners.specs.CornerPoints.{cornerPoint}
 use Rattle.orders.specs.Orders.{decided}
@@ -40,8 +41,8 @@ use Rattle.tree.specs.Calls as calls
 use Rattle.leaves.specs.Calls as lists
 use Rattle.adaption.specs.Calls as adaptions
 use Rattle.shares.specs.Calls as parts
-use Rattle.gridfile.specs.Calls as files
-use Rattle.gridfile.specs.Reading as reading-file
+use Rattle.writer.specs.Calls as files
+use Rattle.reader.specs.Calls as reading-file
 use Rattle.promises.specs.Demand2.{Answers}
 
 pub record Three : Type 0 where

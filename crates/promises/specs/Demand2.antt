@@ -21,10 +21,13 @@ use Rattle.tree.specs.Laws.{Lawful, RoundTrips, Positions, TotalOrder, Families
 use Rattle.triangle.specs.Points.{Bey}
 use Rattle.index.specs.Index.{lineIndex, triangleIndex, prismIndex}
 use Rattle.index.specs.Rank.{Ranked}
-use Rattle.leaves.specs.Cells.{Tied}
-use Rattle.balance.specs.Balance.{Exact}
-use Rattle.gridfile.specs.Readings.{readOf, gridOf}
-use Rattle.gridfile.specs.Laws.{Codec, OneFile, RoundTrip, InMemory}
+use Rattle.leaves.specs.Cells.{CellLaws}
+use Rattle.balance.specs.Balance.{ExactBalance}
+use Rattle.numbers.specs.Answers.{readOf}
+use Rattle.reader.specs.Answers.{gridOf}
+use Rattle.numbers.specs.Laws.{Codec}
+use Rattle.format.specs.Laws.{OneFile}
+use Rattle.gridfile.specs.Laws.{RoundTrip, InMemory}
 use Rattle.corners.specs.CornerPoints.{pointOf}
 use Rattle.leaves.specs.Laws as leaves
 use Rattle.adaption.specs.Laws as adaption
@@ -72,11 +75,11 @@ pub record OfElements : Type 0 where
 
 pub record OfLists : Type 1 where
   pub listed : leaves.Promised 8 21
-  pub cells : Tied prisms.prism
-  pub relatives : adaption.Tied prisms.prism
+  pub cells : CellLaws prisms.prism
+  pub relatives : adaption.Relatives prisms.prism
   pub adapted : adaption.Promised 8 21
   pub shared : shares.Promised
-  pub balanced : Exact
+  pub balanced : ExactBalance
 
 pub record OfFiles : Type 0 where
   pub numbers : Codec

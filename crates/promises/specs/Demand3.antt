@@ -24,7 +24,8 @@ use Rattle.adaption.specs.Laws.{Reached}
 use Rattle.shares.specs.Shares.{total, boundary, weight, heaviest}
 use Rattle.shares.specs.Calls.{shares}
 use Rattle.shares.specs.Laws.{OneShare, Weighty}
-use Rattle.gridfile.specs.Reading.{Grid, reading}
+use Rattle.format.specs.Reading.{Grid}
+use Rattle.reader.specs.Calls.{reading}
 
 pub record Owner (P : ℕ) (vs : List Leaf) (ws : List ℕ) (r : ℕ) (cell : Prism) : Type 0 where
   pub listed : OneLeaf prism vs r cell

@@ -19,9 +19,10 @@ use Rattle.adaption.specs.Adaption.{adapted}
 use Rattle.adaption.specs.Calls.{adaption}
 use Rattle.shares.specs.Calls.{shares}
 use Rattle.leaves.specs.Stretch.{stretch}
-use Rattle.gridfile.specs.File.{fileOf}
-use Rattle.gridfile.specs.Calls.{writing}
-use Rattle.gridfile.specs.Reading.{Grid, reading}
+use Rattle.format.specs.File.{fileOf}
+use Rattle.writer.specs.Calls.{writing}
+use Rattle.format.specs.Reading.{Grid}
+use Rattle.reader.specs.Calls.{reading}
 use Rattle.leaves.specs.Calls as lists
 use Rattle.shares.specs.Shares as parts
 use Rattle.tree.specs.Calls

@@ -1,0 +1,11 @@
+pub mod Runs
+pub mod Fitting
+pub mod Taking
+pub mod AreRuns
+pub mod Tests
+pub mod ReadBack
+pub mod Accepting
+pub mod Standing
+pub mod OneFile
+pub mod Units
+pub mod Spots

@@ -1,0 +1,4 @@
+pub mod Counting
+pub mod Laying
+pub mod Underway
+pub mod Loading
