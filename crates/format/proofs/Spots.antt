@@ -15,7 +15,7 @@ use Rattle.leaves.specs.Leaves.{leaf, Spot, spotAt, span}
 use Rattle.leaves.proofs.Span.{power-pos, fill}
 use Rattle.leaves.proofs.Shift.{bits-le, bits-left, root-cells, shifted}
 use Rattle.leaves.proofs.Filling.{each-is}
-use Rattle.format.specs.Reading.{upto, fits, leavesOf, after}
+use Rattle.format.specs.Reading.{upto, fits, leavesFrom, endFrom}
 use Rattle.format.proofs.Units.{moved, after-moved, leaves-moved, fits-moved}
 
 module _ (n L l K : ℕ) (positive : 0 < n) (shallow : l ≤ L) (c : Spot) where
@@ -50,13 +50,13 @@ module _ (n L l K : ℕ) (positive : 0 < n) (shallow : l ≤ L) (c : Spot) where
         let root : c .root + c .cell / span n L l / n ^ l ≡ c .root = omega (arith, div-eq-of-lt units-below) in
         ap₂ spotAt root (ap (λ (q : ℕ). q * span n L l) (mod-eq-of-lt units-below) ∙ same)
 
-    pub after-is : (k : ℕ) → after n L c l k ≡ moved n L l positive shallow (c .root) (c .cell / span n L l + k)
-    after-is k = ap (λ (d : Spot). after n L d l k) (sym is-moved) ∙ after-moved n L l positive shallow (c .root) (c .cell / span n L l) k
+    pub after-is : (k : ℕ) → endFrom n L c l k ≡ moved n L l positive shallow (c .root) (c .cell / span n L l + k)
+    after-is k = ap (λ (d : Spot). endFrom n L d l k) (sym is-moved) ∙ after-moved n L l positive shallow (c .root) (c .cell / span n L l) k
 
-    pub leaves-are : (k : ℕ) → leavesOf n L c l k ≡ rows (λ t. leaf (c .root + t / n ^ l) l (t % n ^ l)) (c .cell / span n L l) k
-    leaves-are k = ap (λ (d : Spot). leavesOf n L d l k) (sym is-moved) ∙ leaves-moved n L l positive shallow (c .root) (c .cell / span n L l) k
+    pub leaves-are : (k : ℕ) → leavesFrom n L c l k ≡ rows (λ t. leaf (c .root + t / n ^ l) l (t % n ^ l)) (c .cell / span n L l) k
+    leaves-are k = ap (λ (d : Spot). leavesFrom n L d l k) (sym is-moved) ∙ leaves-moved n L l positive shallow (c .root) (c .cell / span n L l) k
 
-    pub fits-is : (k : ℕ) → (k ≡ 0 → ⊥) → fits n L K c l k ≡ upto K (after n L c l k)
+    pub fits-is : (k : ℕ) → (k ≡ 0 → ⊥) → fits n L K c l k ≡ upto K (endFrom n L c l k)
     fits-is zero some = absurd (some refl)
     fits-is (suc k) some =
         ap (λ (d : Spot). fits n L K d l (suc k)) (sym is-moved)
@@ -102,7 +102,7 @@ module _ (b L l : ℕ) (narrow : b * L ≤ 63) (shallow : l ≤ L) where
 
     pub after-spot : q % span (2 ^ b) L l ≡ 0
         → spotAt (r + (q / 2 ^ (b * (L - l)) + k) / 2 ^ (b * l)) ((q / 2 ^ (b * (L - l)) + k) % (1 * 2 ^ (b * l) % 2 ^ 64) * 2 ^ (b * (L - l)) % 2 ^ 64)
-        ≡ after (2 ^ b) L (spotAt r q) l k
+        ≡ endFrom (2 ^ b) L (spotAt r q) l k
     after-spot whole =
         let u = q / 2 ^ (b * (L - l)) + k in
         let each : 2 ^ (b * l) ≡ (2 ^ b) ^ l = sym (power-bits b l) in

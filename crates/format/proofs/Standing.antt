@@ -8,15 +8,15 @@ use native.Mathlib.Omega.{arith}
 use lib.Dec.{leb, ltb, eqb}
 use lib.ListN.{length, length-append, List·getD-append}
 use borrow.Author.Tests.{leb-false, lt-leb, ltb-true, ltb-false, lt-ltb, le-ltb, not-true}
-use Rattle.paper.specs.Outcome.{Outcome, accepted, refused, refuse-when-at, mapped, and-then}
+use Rattle.paper.specs.Outcome.{Outcome, accepted, refused, refuse-when-at, mapped, and-then, passed}
 use Rattle.paper.proofs.Scan.{never}
-use Rattle.leaves.specs.Leaves.{Leaf, Spot, spotAt}
-use Rattle.numbers.specs.Numbers.{Read, read, byteAt, numberAt}
+use Rattle.leaves.specs.Leaves.{Leaf}
+use Rattle.numbers.specs.Numbers.{Found, found, byteAt, numberAt}
 use Rattle.leaves.specs.Calls.{outOfRange}
-use Rattle.format.specs.Reading.{opens, Head, afterRuns, afterRoots, headAt, headed, afterLast, leavesOf, after, RunRead, afterCount, afterLevel, runAt, runsAt, gridAt}
+use Rattle.format.specs.Reading.{opens, Head, afterRuns, afterRoots, headAt, headed, afterLast, leavesFrom, FoundRun, afterCount, afterLevel, Walk, start, keep, runAt, soundFrom, gridAt}
 use Rattle.format.proofs.Tests.{then-is, then-stops, passes, not-tagged}
 use Rattle.format.proofs.Taking.{mapped-refused}
-use Rattle.format.proofs.ReadBack.{runStep}
+use Rattle.format.proofs.Following.{runsAt, runStep, apart}
 
 -- an outcome that bytes after it can't change: no byte was missing
 abbrev Settled : {A : Type 0} → Outcome A → Type 0
@@ -60,78 +60,80 @@ module _ (bs more : List ℕ) where
   pub number-stands : (i : ℕ) → Settled (numberAt bs i) → numberAt (bs ++ more) i ≡ numberAt bs i
   number-stands i =
       when-missing (leb (length bs) i) (leb (length (bs ++ more)) i) i _ _ (there-too i) (λ here s.
-      ap (λ (b : ℕ). cond (ltb b 128) (accepted (read b (i + 1))) (second (bs ++ more) b)) (same-byte i here)
-      ∙ either-stands (ltb (byteAt bs i) 128) (read (byteAt bs i) (i + 1)) (second bs (byteAt bs i)) (second (bs ++ more) (byteAt bs i))
+      ap (λ (b : ℕ). cond (ltb b 128) (accepted (found b (i + 1))) (second (bs ++ more) b)) (same-byte i here)
+      ∙ either-stands (ltb (byteAt bs i) 128) (found (byteAt bs i) (i + 1)) (second bs (byteAt bs i)) (second (bs ++ more) (byteAt bs i))
       (second-stands (byteAt bs i)) s)
     where
-      third : List ℕ → ℕ → ℕ → Outcome Read
+      third : List ℕ → ℕ → ℕ → Outcome Found
       third l a b =
           refuse-when-at (leb (length l) (i + 2)) 19 i
           (refuse-when-at (eqb (byteAt l (i + 2)) 0) 20 i
           (refuse-when-at (leb 128 (byteAt l (i + 2))) 20 i
-          (accepted (read (a - 128 + 128 * (b - 128) + 16384 * byteAt l (i + 2)) (i + 3)))))
+          (accepted (found (a - 128 + 128 * (b - 128) + 16384 * byteAt l (i + 2)) (i + 3)))))
 
-      second : List ℕ → ℕ → Outcome Read
+      second : List ℕ → ℕ → Outcome Found
       second l a =
           refuse-when-at (leb (length l) (i + 1)) 19 i
           (refuse-when-at (eqb (byteAt l (i + 1)) 0) 20 i
-          (cond (ltb (byteAt l (i + 1)) 128) (accepted (read (a - 128 + 128 * byteAt l (i + 1)) (i + 2))) (third l a (byteAt l (i + 1)))))
+          (cond (ltb (byteAt l (i + 1)) 128) (accepted (found (a - 128 + 128 * byteAt l (i + 1)) (i + 2))) (third l a (byteAt l (i + 1)))))
 
       third-stands : (a b : ℕ) → Settled (third bs a b) → third (bs ++ more) a b ≡ third bs a b
       third-stands a b =
           when-missing (leb (length bs) (i + 2)) (leb (length (bs ++ more)) (i + 2)) i _ _ (there-too (i + 2)) (λ here s.
-          ap (λ (x : ℕ). refuse-when-at (eqb x 0) 20 i (refuse-when-at (leb 128 x) 20 i (accepted (read (a - 128 + 128 * (b - 128) + 16384 * x) (i + 3))))) (same-byte (i + 2) here))
+          ap (λ (x : ℕ). refuse-when-at (eqb x 0) 20 i (refuse-when-at (leb 128 x) 20 i (accepted (found (a - 128 + 128 * (b - 128) + 16384 * x) (i + 3))))) (same-byte (i + 2) here))
 
       second-stands : (a : ℕ) → Settled (second bs a) → second (bs ++ more) a ≡ second bs a
       second-stands a =
           when-missing (leb (length bs) (i + 1)) (leb (length (bs ++ more)) (i + 1)) i _ _ (there-too (i + 1)) (λ here.
           λ s.
-          ap (λ (x : ℕ). refuse-when-at (eqb x 0) 20 i (cond (ltb x 128) (accepted (read (a - 128 + 128 * x) (i + 2))) (third (bs ++ more) a x))) (same-byte (i + 1) here)
+          ap (λ (x : ℕ). refuse-when-at (eqb x 0) 20 i (cond (ltb x 128) (accepted (found (a - 128 + 128 * x) (i + 2))) (third (bs ++ more) a x))) (same-byte (i + 1) here)
           ∙ when-wrong (eqb (byteAt bs (i + 1)) 0) 20 i _ _
-          (either-stands (ltb (byteAt bs (i + 1)) 128) (read (a - 128 + 128 * byteAt bs (i + 1)) (i + 2)) (third bs a (byteAt bs (i + 1))) (third (bs ++ more) a (byteAt bs (i + 1)))
+          (either-stands (ltb (byteAt bs (i + 1)) 128) (found (a - 128 + 128 * byteAt bs (i + 1)) (i + 2)) (third bs a (byteAt bs (i + 1))) (third (bs ++ more) a (byteAt bs (i + 1)))
           (third-stands a (byteAt bs (i + 1)))) s)
 
   -- ---- runs
   module _ (n L K : ℕ) where
-    pub run-stands : (i before : ℕ) (c : Spot) (N : ℕ) → Settled (runAt n L bs K i before c N) → runAt n L (bs ++ more) K i before c N ≡ runAt n L bs K i before c N
-    run-stands i before c N =
-        then-stands (numberAt bs i) (numberAt (bs ++ more) i) (afterLevel n L bs K i before c N) (afterLevel n L (bs ++ more) K i before c N) (number-stands i) (λ l.
-        when-wrong (ltb L (l .value)) 1 i _ _ (when-wrong (eqb before (l .value)) 21 i _ _
-        (then-stands (numberAt bs (l .next)) (numberAt (bs ++ more) (l .next)) (afterCount n L K i c N l) (afterCount n L K i c N l) (number-stands (l .next)) (λ k s. refl))))
+    pub run-stands : (w : Walk) → Settled (runAt n L bs K w) → runAt n L (bs ++ more) K w ≡ runAt n L bs K w
+    run-stands w =
+        then-stands (numberAt bs (w .next)) (numberAt (bs ++ more) (w .next)) (afterLevel n L bs K w) (afterLevel n L (bs ++ more) K w) (number-stands (w .next)) (λ l.
+        when-wrong (ltb L (l .value)) 1 (w .next) _ _ (when-wrong (eqb (w .before) (l .value)) 21 (w .next) _ _
+        (then-stands (numberAt bs (l .next)) (numberAt (bs ++ more) (l .next)) (afterCount n L K w l) (afterCount n L K w l) (number-stands (l .next)) (λ k s. refl))))
 
     -- after the last run: ground or bytes left
-    last-stands : (i : ℕ) (c : Spot) (number at : ℕ) → afterLast bs K i c ≡ refused number at → afterLast (bs ++ more) K i c ≡ refused number at
-    last-stands i c number at e = by (not (eqb (c .root) K && eqb (c .cell) 0)) (ltb i (length bs)) refl e
+    last-stands : (w : Walk) (number at : ℕ) → afterLast bs K w ≡ refused number at → afterLast (bs ++ more) K w ≡ refused number at
+    last-stands w number at e = by (not (eqb (w .come .root) K && eqb (w .come .cell) 0)) (ltb (w .next) (length bs)) refl e
       where
-        leftover : Bool → Bool → Outcome (List Leaf)
-        leftover ground left = refuse-when-at ground 12 i (refuse-when-at left 22 i (accepted []))
+        leftover : Bool → Bool → Outcome (Unit {0})
+        leftover ground left = refuse-when-at ground 12 (w .next) (refuse-when-at left 22 (w .next) passed)
 
-        by : (ground left : Bool) → ltb i (length bs) ≡ left → leftover ground left ≡ refused number at → leftover ground (ltb i (length (bs ++ more))) ≡ refused number at
+        by : (ground left : Bool) → ltb (w .next) (length bs) ≡ left → leftover ground left ≡ refused number at
+            → leftover ground (ltb (w .next) (length (bs ++ more))) ≡ refused number at
         by true left is e′ = e′
         by false true is e′ =
-            let inside : i < length bs = ltb-true i (length bs) is in
-            ap (leftover false) (lt-ltb i (length (bs ++ more)) (omega (arith, longer))) ∙ e′
-        by false false is e′ = never [] number at (sym e′)
+            let inside : w .next < length bs = ltb-true (w .next) (length bs) is in
+            ap (leftover false) (lt-ltb (w .next) (length (bs ++ more)) (omega (arith, longer))) ∙ e′
+        by false false is e′ = never tt number at (sym e′)
 
-    pub runs-stand : (R i before : ℕ) (c : Spot) (N number at : ℕ) → (number ≡ 19 → ⊥) → runsAt n L bs K R i before c N ≡ refused number at
-        → runsAt n L (bs ++ more) K R i before c N ≡ refused number at
-    unfolding runsAt
-    runs-stand zero i before c N number at there e = last-stands i c number at e
-    runs-stand (suc R) i before c N number at there e =
-        by (runAt n L bs K i before c N) refl (λ r. runs-stand R (r .next) (r .level) (after n L c (r .level) (r .count)) (N + r .count) number at there)
+    pub runs-stand : (R : ℕ) (w : Walk) (number at : ℕ) → (number ≡ 19 → ⊥) → runsAt n L bs K R w ≡ refused number at
+        → runsAt n L (bs ++ more) K R w ≡ refused number at
+    unfolding soundFrom
+    runs-stand zero w number at there e =
+        ap (mapped (λ (u : Unit {0}). [])) (last-stands w number at (mapped-refused (λ (u : Unit {0}). []) _ number at (sym e)))
+    runs-stand (suc R) w number at there e =
+        apart n L (bs ++ more) K R w ∙ by (runAt n L bs K w) refl (λ r. runs-stand R (keep n L w r) number at there)
       where
-        by : (o : Outcome RunRead) → runAt n L bs K i before c N ≡ o
-            → ((r : RunRead) → runsAt n L bs K R (r .next) (r .level) (after n L c (r .level) (r .count)) (N + r .count) ≡ refused number at
-            → runsAt n L (bs ++ more) K R (r .next) (r .level) (after n L c (r .level) (r .count)) (N + r .count) ≡ refused number at)
-            → and-then (runAt n L (bs ++ more) K i before c N) (runStep n L K (bs ++ more) R c N) ≡ refused number at
+        by : (o : Outcome FoundRun) → runAt n L bs K w ≡ o
+            → ((r : FoundRun) → runsAt n L bs K R (keep n L w r) ≡ refused number at
+            → runsAt n L (bs ++ more) K R (keep n L w r) ≡ refused number at)
+            → and-then (runAt n L (bs ++ more) K w) (runStep n L (bs ++ more) K R w) ≡ refused number at
         by (accepted r) is later =
-            let rest = sym (then-is (runAt n L bs K i before c N) (runStep n L K bs R c N) r is) ∙ e in
-            then-is (runAt n L (bs ++ more) K i before c N) (runStep n L K (bs ++ more) R c N) r (run-stands i before c N (subst Settled (sym is) tt) ∙ is)
-            ∙ ap (mapped (λ (vs : List Leaf). leavesOf n L c (r .level) (r .count) ++ vs)) (later r (mapped-refused (λ (vs : List Leaf). leavesOf n L c (r .level) (r .count) ++ vs) _ number at (sym rest)))
+            let rest = sym (then-is (runAt n L bs K w) (runStep n L bs K R w) r is) ∙ sym (apart n L bs K R w) ∙ e in
+            then-is (runAt n L (bs ++ more) K w) (runStep n L (bs ++ more) K R w) r (run-stands w (subst Settled (sym is) tt) ∙ is)
+            ∙ ap (mapped (λ (vs : List Leaf). leavesFrom n L (w .come) (r .level) (r .count) ++ vs)) (later r (mapped-refused (λ (vs : List Leaf). leavesFrom n L (w .come) (r .level) (r .count) ++ vs) _ number at (sym rest)))
         by (refused m j) is later =
-            let same : _≡_ {A = Outcome _} (refused m j) (refused number at) = sym (then-stops (runAt n L bs K i before c N) (runStep n L K bs R c N) m j is) ∙ e in
-            then-stops (runAt n L (bs ++ more) K i before c N) (runStep n L K (bs ++ more) R c N) m j
-            (run-stands i before c N (subst Settled (sym is) (λ missing. there (sym (ap numberOf same) ∙ missing))) ∙ is)
+            let same : _≡_ {A = Outcome _} (refused m j) (refused number at) = sym (then-stops (runAt n L bs K w) (runStep n L bs K R w) m j is) ∙ sym (apart n L bs K R w) ∙ e in
+            then-stops (runAt n L (bs ++ more) K w) (runStep n L (bs ++ more) K R w) m j
+            (run-stands w (subst Settled (sym is) (λ missing. there (sym (ap numberOf same) ∙ missing))) ∙ is)
             ∙ same
 
   -- ---- the whole file
@@ -176,7 +178,7 @@ module _ (bs more : List ℕ) where
             let rest = sym (then-is (headAt bs) (headed n L bs) h is) ∙ e in
             then-is (headAt (bs ++ more)) (headed n L (bs ++ more)) h (head-stands open-tag (subst Settled (sym is) tt) ∙ is)
             ∙ ap (mapped (λ (vs : List Leaf). record { roots = h .roots; leaves = vs }))
-            (runs-stand n L (h .roots) (h .runs) (h .next) (suc L) (spotAt 0 0) 0 number at there (mapped-refused (λ (vs : List Leaf). record { roots = h .roots; leaves = vs }) _ number at (sym rest)))
+            (runs-stand n L (h .roots) (h .runs) (start n L (h .next)) number at there (mapped-refused (λ (vs : List Leaf). record { roots = h .roots; leaves = vs }) _ number at (sym rest)))
         by (refused m j) is =
             let same : _≡_ {A = Outcome _} (refused m j) (refused number at) = sym (then-stops (headAt bs) (headed n L bs) m j is) ∙ e in
             then-stops (headAt (bs ++ more)) (headed n L (bs ++ more)) m j (head-stands open-tag (subst Settled (sym is) (λ missing. there (sym (ap numberOf same) ∙ missing))) ∙ is)

@@ -9,10 +9,9 @@ use borrow.Author.Tests.{ltb-false, eqb-false, not-false}
 use Rattle.paper.specs.Outcome.{Outcome, accepted, refused, mapped, and-then}
 use Rattle.paper.proofs.Tests.{or-none}
 use Rattle.paper.proofs.Scan.{never, accepted-of}
-use Rattle.leaves.specs.Leaves.{Spot}
 use Rattle.leaves.specs.Calls.{limit, outOfRange}
-use Rattle.numbers.specs.Numbers.{read, numberAt}
-use Rattle.format.specs.Reading.{opens, Head, head, afterRuns, afterRoots, headAt, fits, RunRead, runRead, afterCount, afterLevel, runAt}
+use Rattle.numbers.specs.Numbers.{found, numberAt}
+use Rattle.format.specs.Reading.{opens, Head, head, afterRuns, afterRoots, headAt, fits, Walk, FoundRun, foundRun, afterCount, afterLevel, runAt}
 
 -- ---- what an accepted outcome came from
 pub then-accepted : {A B : Type 0} (o : Outcome A) (f : A → Outcome B) (b : B) → and-then o f ≡ accepted b → (a : A) × ((o ≡ accepted a) × (f a ≡ accepted b))
@@ -48,45 +47,45 @@ mapped-refused f (refused m j) number at e = sym (ap refusal e)
 -- ---- one run
 module _ (n L K : ℕ) (bs : List ℕ) where
   -- what an accepted run is
-  pub record RunTaken (i before : ℕ) (c : Spot) (N : ℕ) (r : RunRead) : Type 0 where
+  pub record RunTaken (w : Walk) (r : FoundRun) : Type 0 where
     pub after-level : ℕ
-    pub level : numberAt bs i ≡ accepted (read (r .level) after-level)
-    pub count : numberAt bs after-level ≡ accepted (read (r .count) (r .next))
+    pub level : numberAt bs (w .next) ≡ accepted (found (r .level) after-level)
+    pub count : numberAt bs after-level ≡ accepted (found (r .count) (r .next))
     pub shallow : r .level ≤ L
-    pub other : before ≡ r .level → ⊥
+    pub other : w .before ≡ r .level → ⊥
     pub some : r .count ≡ 0 → ⊥
-    pub few : N + r .count ≤ limit
-    pub fit : fits n L K c (r .level) (r .count) ≡ true
+    pub few : w .count + r .count ≤ limit
+    pub fit : fits n L K (w .come) (r .level) (r .count) ≡ true
 
-  pub run-taken : (i before : ℕ) (c : Spot) (N : ℕ) (r : RunRead) → runAt n L bs K i before c N ≡ accepted r → RunTaken i before c N r
-  run-taken i before c N r h =
-      let level = then-accepted (numberAt bs i) (afterLevel n L bs K i before c N) r h in
+  pub run-taken : (w : Walk) (r : FoundRun) → runAt n L bs K w ≡ accepted r → RunTaken w r
+  run-taken w r h =
+      let level = then-accepted (numberAt bs (w .next)) (afterLevel n L bs K w) r h in
       let l = level .0 in
-      let shallow = accepted-of (ltb L (l .value)) 1 i _ r (level .1 .1) in
-      let differs = accepted-of (eqb before (l .value)) 21 i _ r (shallow .1) in
-      let count = then-accepted (numberAt bs (l .next)) (afterCount n L K i c N l) r (differs .1) in
+      let shallow = accepted-of (ltb L (l .value)) 1 (w .next) _ r (level .1 .1) in
+      let differs = accepted-of (eqb (w .before) (l .value)) 21 (w .next) _ r (shallow .1) in
+      let count = then-accepted (numberAt bs (l .next)) (afterCount n L K w l) r (differs .1) in
       let k = count .0 in
       let some = accepted-of (eqb (k .value) 0) 21 (l .next) _ r (count .1 .1) in
-      let few = accepted-of (ltb limit (N + k .value)) 15 (l .next) _ r (some .1) in
-      let fit = accepted-of (not (fits n L K c (l .value) (k .value))) 12 i _ r (few .1) in
-      subst (RunTaken i before c N) (accepted-same (runRead (l .value) (k .value) (k .next)) r (fit .1))
+      let few = accepted-of (ltb limit (w .count + k .value)) 15 (l .next) _ r (some .1) in
+      let fit = accepted-of (not (fits n L K (w .come) (l .value) (k .value))) 12 (w .next) _ r (few .1) in
+      subst (RunTaken w) (accepted-same (foundRun (l .value) (k .value) (k .next)) r (fit .1))
       (record {
         after-level = l .next;
         level = level .1 .0;
         count = count .1 .0;
         shallow = ltb-false L (l .value) (shallow .0);
-        other = eqb-false before (l .value) (differs .0);
+        other = eqb-false (w .before) (l .value) (differs .0);
         some = eqb-false (k .value) 0 (some .0);
-        few = ltb-false limit (N + k .value) (few .0);
-        fit = not-false (fits n L K c (l .value) (k .value)) (fit .0);
+        few = ltb-false limit (w .count + k .value) (few .0);
+        fit = not-false (fits n L K (w .come) (l .value) (k .value)) (fit .0);
       })
 
 -- what an accepted head is
 pub record HeadTaken (bs : List ℕ) (h : Head) : Type 0 where
   pub after-roots : ℕ
   pub tagged : opens bs ≡ true
-  pub roots : numberAt bs 4 ≡ accepted (read (h .roots) after-roots)
-  pub runs : numberAt bs after-roots ≡ accepted (read (h .runs) (h .next))
+  pub roots : numberAt bs 4 ≡ accepted (found (h .roots) after-roots)
+  pub runs : numberAt bs after-roots ≡ accepted (found (h .runs) (h .next))
   pub some-root : 0 < h .roots
   pub few-roots : h .roots ≤ 4096
   pub few-runs : h .runs ≤ limit

@@ -13,7 +13,7 @@ use borrow.Author.Tests.{lt-ltb, le-ltb, eq-eqb, ne-eqb}
 use Rattle.paper.specs.Outcome.{rows}
 use Rattle.leaves.specs.Leaves.{Leaf, leaf, Spot, spotAt, span, past, endOf}
 use Rattle.leaves.proofs.Span.{power-pos, fill, more-mul, quotient, rest, end-last, end-within}
-use Rattle.format.specs.Reading.{upto, next, fits, leavesOf, after}
+use Rattle.format.specs.Reading.{upto, leafFrom, fits, leavesFrom, endFrom}
 
 -- a larger number has no smaller quotient
 pub quotient-order : (m a b : ℕ) → 0 < m → a ≤ b → a / m ≤ b / m
@@ -62,7 +62,7 @@ module _ (n L l : ℕ) (positive : 0 < n) (shallow : l ≤ L) where
   some-span : 0 < span n L l
   some-span = power-pos n (L - l) positive
 
-  next-moved : (r u : ℕ) → next n L (moved r u) l ≡ leaf (r + u / each) l (u % each)
+  next-moved : (r u : ℕ) → leafFrom n L (moved r u) l ≡ leaf (r + u / each) l (u % each)
   next-moved r u = ap (leaf (r + u / each) l) (mul-div-cancel (u % each) some-span)
 
   -- one leaf further
@@ -85,7 +85,7 @@ module _ (n L l : ℕ) (positive : 0 < n) (shallow : l ≤ L) where
     within-rest : (u % each + 1 ≡ each → ⊥) → (u + 1) % each ≡ u % each + 1
     within-rest within = rest each (u / each) (u % each + 1) (u + 1) (omega (arith, parts)) (still within)
 
-  end-moved : (r u : ℕ) → endOf n L (next n L (moved r u) l) ≡ moved r (u + 1)
+  end-moved : (r u : ℕ) → endOf n L (leafFrom n L (moved r u) l) ≡ moved r (u + 1)
   end-moved r u = ap (endOf n L) (next-moved r u) ∙ by (ℕ-discrete (u % each + 1) each)
     where
       v : Leaf
@@ -103,20 +103,20 @@ module _ (n L l : ℕ) (positive : 0 < n) (shallow : l ≤ L) where
           end-within n L v (λ full. omega (arith, full, room, more-mul (u % each + 1) (span n L l), fill n L l shallow, some-span))
           ∙ ap₂ spotAt same (ap (λ (q : ℕ). q * span n L l) (sym (within-rest u within)))
 
-  pub after-moved : (r u k : ℕ) → after n L (moved r u) l k ≡ moved r (u + k)
-  unfolding after
+  pub after-moved : (r u k : ℕ) → endFrom n L (moved r u) l k ≡ moved r (u + k)
+  unfolding endFrom
   after-moved r u zero = ap (moved r) (sym (add-zero u))
   after-moved r u (suc k) =
-      ap (λ (c : Spot). after n L c l k) (end-moved r u)
+      ap (λ (c : Spot). endFrom n L c l k) (end-moved r u)
       ∙ after-moved r (u + 1) k
       ∙ ap (moved r) (ap (λ (m : ℕ). m + k) (add-one u) ∙ suc-add u k ∙ sym (add-suc u k))
 
-  pub leaves-moved : (r u k : ℕ) → leavesOf n L (moved r u) l k ≡ rows (λ t. leaf (r + t / each) l (t % each)) u k
-  unfolding leavesOf
+  pub leaves-moved : (r u k : ℕ) → leavesFrom n L (moved r u) l k ≡ rows (λ t. leaf (r + t / each) l (t % each)) u k
+  unfolding leavesFrom
   leaves-moved r u zero = refl
   leaves-moved r u (suc k) =
       ap₂ (λ (v : Leaf) (vs : List Leaf). v ∷ vs) (next-moved r u)
-      (ap (λ (c : Spot). leavesOf n L c l k) (end-moved r u)
+      (ap (λ (c : Spot). leavesFrom n L c l k) (end-moved r u)
       ∙ leaves-moved r (u + 1) k
       ∙ ap (λ (m : ℕ). rows (λ t. leaf (r + t / each) l (t % each)) m k) (add-one u))
 

@@ -3,53 +3,63 @@
 -- Definitions only.
 --
 --   tag              "the four bytes 50 47 52 31"
---   Run              a level and a leaf count
---   runsOf vs        the runs of a list: each as long as the level stays
---   levelRuns ls     the runs of the leaves whose levels are ls
+--   Key, key v       what the leaves of a run have in common: their level
+--   sameKey          whether two keys are the same
+--   Run              a key and a leaf count
+--   runsIn ks        the runs of leaves with the keys ks: each as long as the key stays
+--   runsOf vs        the runs of a list
 --   runBytes rs      their pairs, in order
 --   runsFile K rs    the tag, K, R, then the pairs
 --   fileOf K vs      the file of a list of K roots
---   levelsIn rs      the levels of the leaves that the runs stand for
---   Differs l rs     the first of the runs, if any, is of another level than l
+--   keysIn rs        the keys of the leaves that the runs stand for
+--   Differs k rs     the first of the runs, if any, is of another key than k
 --   Apart rs         no run of 0, and "Neighbouring runs differ in level"
---   AreRuns rs vs    the runs rs are those of the list vs: they stand for its leaves' levels, and are apart
+--   AreRuns rs vs    the runs rs are those of the list vs: they stand for its leaves' keys, and are apart
 --
 -- Assumes nothing.
 use mathlib.Core.Path.{_≡_}
-use mathlib.Core.Bool.{cond}
-use mathlib.Core.List.{List, [], _∷_, _++_}
+use mathlib.Core.Bool.{Bool, cond}
+use mathlib.Core.List.{List, [], _∷_, _++_, map}
 use Prim.Native.Nat.{ℕ, _+_, _<_}
 use lib.Dec.{eqb}
 use lib.ListN.{length, replicate}
-use Rattle.leaves.specs.Leaves.{Leaf, levelsOf}
+use Rattle.leaves.specs.Leaves.{Leaf}
 use Rattle.numbers.specs.Numbers.{bytesOf}
 
 abbrev pub tag : List ℕ
 tag = 80 ∷ 71 ∷ 82 ∷ 49 ∷ []
 
+abbrev pub Key : Type 0
+Key = ℕ
+
+abbrev pub key : Leaf → Key
+key v = v .level
+
+abbrev pub sameKey : Key → Key → Bool
+sameKey k k′ = eqb k k′
+
 pub record Run : Type 0 where
-  pub level : ℕ
+  pub key : Key
   pub count : ℕ
 
-abbrev pub run : ℕ → ℕ → Run
-run l k = record { level = l; count = k }
+abbrev pub run : Key → ℕ → Run
+run k m = record { key = k; count = m }
 
 -- one leaf more before the runs rs
-abbrev pub joinRun : ℕ → List Run → List Run
-joinRun l [] = run l 1 ∷ []
-joinRun l (r ∷ rs) = cond (eqb l (r .level)) (run l (r .count + 1) ∷ rs) (run l 1 ∷ r ∷ rs)
+abbrev pub joinRun : Key → List Run → List Run
+joinRun k [] = run k 1 ∷ []
+joinRun k (r ∷ rs) = cond (sameKey k (r .key)) (run k (r .count + 1) ∷ rs) (run k 1 ∷ r ∷ rs)
 
-unfoldable pub runsOf : List Leaf → List Run
-runsOf [] = []
-runsOf (v ∷ vs) = joinRun (v .level) (runsOf vs)
+unfoldable pub runsIn : List Key → List Run
+runsIn [] = []
+runsIn (k ∷ ks) = joinRun k (runsIn ks)
 
-unfoldable pub levelRuns : List ℕ → List Run
-levelRuns [] = []
-levelRuns (l ∷ ls) = joinRun l (levelRuns ls)
+abbrev pub runsOf : List Leaf → List Run
+runsOf vs = runsIn (map key vs)
 
 unfoldable pub runBytes : List Run → List ℕ
 runBytes [] = []
-runBytes (r ∷ rs) = bytesOf (r .level) ++ (bytesOf (r .count) ++ runBytes rs)
+runBytes (r ∷ rs) = bytesOf (r .key) ++ (bytesOf (r .count) ++ runBytes rs)
 
 abbrev pub runsFile : ℕ → List Run → List ℕ
 runsFile K rs = tag ++ (bytesOf K ++ (bytesOf (length rs) ++ runBytes rs))
@@ -58,18 +68,18 @@ abbrev pub fileOf : ℕ → List Leaf → List ℕ
 fileOf K vs = runsFile K (runsOf vs)
 
 -- ---- what the runs of a list are, however they are found
-unfoldable pub levelsIn : List Run → List ℕ
-levelsIn [] = []
-levelsIn (r ∷ rs) = replicate (r .count) (r .level) ++ levelsIn rs
+unfoldable pub keysIn : List Run → List Key
+keysIn [] = []
+keysIn (r ∷ rs) = replicate (r .count) (r .key) ++ keysIn rs
 
-abbrev pub Differs : ℕ → List Run → Type 0
-Differs l [] = Unit {0}
-Differs l (r ∷ rs) = l ≡ r .level → ⊥
+abbrev pub Differs : Key → List Run → Type 0
+Differs k [] = Unit {0}
+Differs k (r ∷ rs) = k ≡ r .key → ⊥
 
 unfoldable pub Apart : List Run → Type 0
 Apart [] = Unit {0}
-Apart (r ∷ rs) = (0 < r .count) × (Differs (r .level) rs × Apart rs)
+Apart (r ∷ rs) = (0 < r .count) × (Differs (r .key) rs × Apart rs)
 
 pub record AreRuns (rs : List Run) (vs : List Leaf) : Type 0 where
-  pub levels : levelsOf vs ≡ levelsIn rs
+  pub keys : map key vs ≡ keysIn rs
   pub apart : Apart rs

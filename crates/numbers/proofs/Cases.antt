@@ -8,7 +8,7 @@ use native.Mathlib.Omega.{arith}
 use lib.ListN.{length}
 use borrow.Author.Tests.{lt-ltb, le-ltb, le-leb, lt-leb, eq-eqb, ne-eqb}
 use Rattle.paper.specs.Outcome.{accepted, refused}
-use Rattle.numbers.specs.Numbers.{bytesOf, read, byteAt, numberAt}
+use Rattle.numbers.specs.Numbers.{bytesOf, found, byteAt, numberAt}
 
 -- ---- the number at offset i
 module _ (bs : List ℕ) (i : ℕ) where
@@ -16,7 +16,7 @@ module _ (bs : List ℕ) (i : ℕ) where
   no-byte ended = simp (le-leb (length bs) i ended)
 
   module _ (first : i < length bs) where
-    pub one-byte : byteAt bs i < 128 → numberAt bs i ≡ accepted (read (byteAt bs i) (i + 1))
+    pub one-byte : byteAt bs i < 128 → numberAt bs i ≡ accepted (found (byteAt bs i) (i + 1))
     one-byte last = simp (lt-leb (length bs) i first, lt-ltb (byteAt bs i) 128 last)
 
     module _ (more : 128 ≤ byteAt bs i) where
@@ -34,7 +34,7 @@ module _ (bs : List ℕ) (i : ℕ) where
             )
 
         module _ (some : byteAt bs (i + 1) ≡ 0 → ⊥) where
-          pub two-bytes : byteAt bs (i + 1) < 128 → numberAt bs i ≡ accepted (read (byteAt bs i - 128 + 128 * byteAt bs (i + 1)) (i + 2))
+          pub two-bytes : byteAt bs (i + 1) < 128 → numberAt bs i ≡ accepted (found (byteAt bs i - 128 + 128 * byteAt bs (i + 1)) (i + 2))
           two-bytes last =
               simp (
                 lt-leb (length bs) i first,
@@ -84,7 +84,7 @@ module _ (bs : List ℕ) (i : ℕ) where
                     )
 
                 pub three-bytes : byteAt bs (i + 2) < 128
-                    → numberAt bs i ≡ accepted (read (byteAt bs i - 128 + 128 * (byteAt bs (i + 1) - 128) + 16384 * byteAt bs (i + 2)) (i + 3))
+                    → numberAt bs i ≡ accepted (found (byteAt bs i - 128 + 128 * (byteAt bs (i + 1) - 128) + 16384 * byteAt bs (i + 2)) (i + 3))
                 three-bytes last =
                     simp (
                       lt-leb (length bs) i first,

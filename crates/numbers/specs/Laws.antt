@@ -11,13 +11,13 @@ use Prim.Native.Nat.{ℕ, _+_, _≤_, _<_}
 use lib.ListN.{length, getD}
 use lib.Seq.{slice}
 use Rattle.paper.specs.Outcome.{accepted}
-use Rattle.numbers.specs.Numbers.{highest, bytesOf, read, numberAt}
+use Rattle.numbers.specs.Numbers.{highest, bytesOf, found, numberAt}
 
 abbrev pub Bytes : List ℕ → Type 0
 Bytes bs = (i : ℕ) → i < length bs → getD bs i 0 < 256
 
 pub record Codec : Type 0 where
   pub read-written : (before after : List ℕ) (v : ℕ) → v ≤ highest
-      → numberAt (before ++ (bytesOf v ++ after)) (length before) ≡ accepted (read v (length before + length (bytesOf v)))
-  pub written-read : (bs : List ℕ) (i v j : ℕ) → Bytes bs → numberAt bs i ≡ accepted (read v j)
+      → numberAt (before ++ (bytesOf v ++ after)) (length before) ≡ accepted (found v (length before + length (bytesOf v)))
+  pub written-read : (bs : List ℕ) (i v j : ℕ) → Bytes bs → numberAt bs i ≡ accepted (found v j)
       → (v ≤ highest) × (j ≤ length bs) × (j ≡ i + length (bytesOf v)) × (slice i j bs ≡ bytesOf v)

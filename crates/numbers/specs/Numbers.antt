@@ -3,7 +3,7 @@
 --
 --   highest         2^21 - 1, the largest number of three bytes
 --   bytesOf v       the bytes of the number v
---   Read            a number that was read: its value, and the offset of what follows it
+--   Found           a number that was found: its value, and the offset of what follows it
 --   numberAt bs i   the number whose first byte is at offset i of the bytes bs. 19 "file ends inside or before a number"; 20 "number not
 --                   shortest, or third byte with top bit"; the place is the "offset of the number's first byte"
 --
@@ -24,24 +24,24 @@ bytesOf v =
     (cond (ltb v 16384) ((v % 128 + 128) ∷ (v / 128) ∷ [])
     ((v % 128 + 128) ∷ (v / 128 % 128 + 128) ∷ (v / 16384) ∷ []))
 
-pub record Read : Type 0 where
+pub record Found : Type 0 where
   pub value : ℕ
   pub next : ℕ
 
-abbrev pub read : ℕ → ℕ → Read
-read v j = record { value = v; next = j }
+abbrev pub found : ℕ → ℕ → Found
+found v j = record { value = v; next = j }
 
 abbrev pub byteAt : List ℕ → ℕ → ℕ
 byteAt bs i = getD bs i 0
 
-abbrev pub numberAt : List ℕ → ℕ → Outcome Read
+abbrev pub numberAt : List ℕ → ℕ → Outcome Found
 numberAt bs i =
     refuse-when-at (leb (length bs) i) 19 i
-    (cond (ltb (byteAt bs i) 128) (accepted (read (byteAt bs i) (i + 1)))
+    (cond (ltb (byteAt bs i) 128) (accepted (found (byteAt bs i) (i + 1)))
     (refuse-when-at (leb (length bs) (i + 1)) 19 i
     (refuse-when-at (eqb (byteAt bs (i + 1)) 0) 20 i
-    (cond (ltb (byteAt bs (i + 1)) 128) (accepted (read (byteAt bs i - 128 + 128 * byteAt bs (i + 1)) (i + 2)))
+    (cond (ltb (byteAt bs (i + 1)) 128) (accepted (found (byteAt bs i - 128 + 128 * byteAt bs (i + 1)) (i + 2)))
     (refuse-when-at (leb (length bs) (i + 2)) 19 i
     (refuse-when-at (eqb (byteAt bs (i + 2)) 0) 20 i
     (refuse-when-at (leb 128 (byteAt bs (i + 2))) 20 i
-    (accepted (read (byteAt bs i - 128 + 128 * (byteAt bs (i + 1) - 128) + 16384 * byteAt bs (i + 2)) (i + 3))))))))))
+    (accepted (found (byteAt bs i - 128 + 128 * (byteAt bs (i + 1) - 128) + 16384 * byteAt bs (i + 2)) (i + 3))))))))))

@@ -48,11 +48,11 @@ use Rattle.paper.specs.declared.NumberAnswer.the-variants as number-answer
 use Rattle.paper.specs.declared.TruthAnswer.the-variants as truth-answer
 use Rattle.paper.specs.declared.CompareAnswer.the-variants as order-answer
 use Rattle.paper.specs.declared.PassAnswer.the-variants as pass-answer
-use Rattle.numbers.specs.Numbers.{Read}
+use Rattle.numbers.specs.Numbers.{Found}
 use Rattle.reader.specs.Answers.{Size, gridOf}
-use Rattle.numbers.specs.Answers.{readOf}
-use Rattle.numbers.specs.declared.NumberRead.{NumberRead}
-use Rattle.numbers.specs.declared.NumberRead.the-variants as number-read
+use Rattle.numbers.specs.Answers.{foundOf}
+use Rattle.numbers.specs.declared.FoundNumber.{FoundNumber}
+use Rattle.numbers.specs.declared.FoundNumber.the-variants as number-read
 use Rattle.reader.specs.declared.GridAnswer.{GridAnswer}
 use Rattle.reader.specs.declared.GridAnswer.the-variants as grid-answer
 use Rattle.numbers.proofs.Coded.{codec}
@@ -146,13 +146,13 @@ grid-answers = determined-by gridOf (answer loaded grid-answer.Refused) undo
     undo (grid-answer.Is roots leaves) = refl
     undo (grid-answer.Refused n p) = refl
 
-abbrev value-read : Read → NumberRead
+abbrev value-read : Found → FoundNumber
 value-read r = number-read.Is (r .value) (r .next)
 
-numbers-read : Determined readOf
-numbers-read = determined-by readOf (answer value-read number-read.Refused) undo
+numbers-read : Determined foundOf
+numbers-read = determined-by foundOf (answer value-read number-read.Refused) undo
   where
-    undo : (r : NumberRead) → answer value-read number-read.Refused (readOf r) ≡ r
+    undo : (r : FoundNumber) → answer value-read number-read.Refused (foundOf r) ≡ r
     undo (number-read.Is value next) = refl
     undo (number-read.Refused n p) = refl
 

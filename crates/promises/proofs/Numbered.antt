@@ -17,8 +17,8 @@ use Rattle.adaption.specs.Adaption.{mark, adapted}
 use Rattle.adaption.specs.Calls.{markFault, depthFault, numbers, marked}
 use Rattle.shares.specs.Calls.{weightFault}
 use Rattle.format.specs.File.{fileOf}
-use Rattle.numbers.specs.Numbers.{read, byteAt, numberAt}
-use Rattle.format.specs.Reading.{opens, head, afterRuns, afterRoots, headAt, fits, leavesOf, after, runRead, afterCount, afterLevel, runAt, runsAt, headed, gridAt}
+use Rattle.numbers.specs.Numbers.{found, byteAt, numberAt}
+use Rattle.format.specs.Reading.{opens, head, afterRuns, afterRoots, headAt, fits, leavesFrom, endFrom, foundRun, afterCount, afterLevel, runAt, runsAt, headed, gridAt}
 use Rattle.reader.specs.Calls.{fitted}
 use Rattle.corners.specs.declared.Root.{Root}
 use Rattle.corners.specs.CornerPoints.{rootWithin, cornerPoint}
@@ -130,14 +130,14 @@ module _ (n L : ℕ) where
 number-said : (bs : List ℕ) (i : ℕ) → Numbered (numberAt bs i)
 number-said bs i =
     when (leb (length bs) i) 19 i refl
-    (either (ltb (byteAt bs i) 128) _ _ (fine (read (byteAt bs i) (i + 1)))
+    (either (ltb (byteAt bs i) 128) _ _ (fine (found (byteAt bs i) (i + 1)))
     (when (leb (length bs) (i + 1)) 19 i refl
     (when (eqb (byteAt bs (i + 1)) 0) 20 i refl
-    (either (ltb (byteAt bs (i + 1)) 128) _ _ (fine (read (byteAt bs i - 128 + 128 * byteAt bs (i + 1)) (i + 2)))
+    (either (ltb (byteAt bs (i + 1)) 128) _ _ (fine (found (byteAt bs i - 128 + 128 * byteAt bs (i + 1)) (i + 2)))
     (when (leb (length bs) (i + 2)) 19 i refl
     (when (eqb (byteAt bs (i + 2)) 0) 20 i refl
     (when (leb 128 (byteAt bs (i + 2))) 20 i refl
-    (fine (read (byteAt bs i - 128 + 128 * (byteAt bs (i + 1) - 128) + 16384 * byteAt bs (i + 2)) (i + 3))))))))))
+    (fine (found (byteAt bs i - 128 + 128 * (byteAt bs (i + 1) - 128) + 16384 * byteAt bs (i + 2)) (i + 3))))))))))
 
 head-said : (bs : List ℕ) → Numbered (headAt bs)
 head-said bs =
@@ -152,15 +152,15 @@ module _ (n L : ℕ) (bs : List ℕ) (K : ℕ) where
       when (ltb L (l .value)) 1 i refl (when (eqb before (l .value)) 21 i refl
       (then-said (numberAt bs (l .next)) (afterCount n L K i c N l) (number-said bs (l .next)) (λ k.
       when (eqb (k .value) 0) 21 (l .next) refl (when (ltb limit (N + k .value)) 15 (l .next) refl
-      (when (not (fits n L K c (l .value) (k .value))) 12 i refl (fine (runRead (l .value) (k .value) (k .next)))))))))
+      (when (not (fits n L K c (l .value) (k .value))) 12 i refl (fine (foundRun (l .value) (k .value) (k .next)))))))))
 
   runs-said : (R i before : ℕ) (c : Spot) (N : ℕ) → Numbered (runsAt n L bs K R i before c N)
   unfolding runsAt
   runs-said zero i before c N = when (not (eqb (c .root) K && eqb (c .cell) 0)) 12 i refl (when (ltb i (length bs)) 22 i refl (fine []))
   runs-said (suc R) i before c N =
       then-said (runAt n L bs K i before c N) _ (run-said i before c N) (λ r.
-      mapped-said (λ (vs : List Leaf). leavesOf n L c (r .level) (r .count) ++ vs) (runsAt n L bs K R (r .next) (r .level) (after n L c (r .level) (r .count)) (N + r .count))
-      (runs-said R (r .next) (r .level) (after n L c (r .level) (r .count)) (N + r .count)))
+      mapped-said (λ (vs : List Leaf). leavesFrom n L c (r .level) (r .count) ++ vs) (runsAt n L bs K R (r .next) (r .level) (endFrom n L c (r .level) (r .count)) (N + r .count))
+      (runs-said R (r .next) (r .level) (endFrom n L c (r .level) (r .count)) (N + r .count)))
 
 grid-said : (n L : ℕ) (bs : List ℕ) → Numbered (gridAt n L bs)
 grid-said n L bs =

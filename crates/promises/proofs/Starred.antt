@@ -7,9 +7,9 @@ use Rattle.adaption.specs.Adaption.{every, joined}
 use Rattle.shares.specs.Shares.{total, largest}
 use Rattle.leaves.specs.Calls.{walked}
 use Rattle.format.specs.File.{runsOf, runBytes}
-use Rattle.format.specs.Reading.{fits, leavesOf, after, runsAt}
+use Rattle.format.specs.Reading.{fits, leavesFrom, endFrom, runsAt}
 use Rattle.promises.specs.Starred.{AllHold, starred}
 
 pub starred-hold : AllHold starred
-unfolding starred elementAt positionAt prismTo neighbour parentKind numberOf every joined total largest walked runsOf runBytes fits leavesOf after runsAt
+unfolding starred elementAt positionAt prismTo neighbour parentKind numberOf every joined total largest walked runsOf runBytes fits leavesFrom after runsAt
 starred-hold = (refl, (refl, (refl, (refl, (refl, (refl, (refl, (refl, (refl, (refl, (refl, (refl, (refl, (refl, (refl, (refl, (refl, (refl, (refl, (refl, (refl, (refl, (refl, (refl, (refl, (refl, (refl, (refl, (refl, (refl, tt))))))))))))))))))))))))))))))

@@ -23,7 +23,7 @@ use Rattle.index.specs.Index.{lineIndex, triangleIndex, prismIndex}
 use Rattle.index.specs.Rank.{Ranked}
 use Rattle.leaves.specs.Cells.{CellLaws}
 use Rattle.balance.specs.Balance.{ExactBalance}
-use Rattle.numbers.specs.Answers.{readOf}
+use Rattle.numbers.specs.Answers.{foundOf}
 use Rattle.reader.specs.Answers.{gridOf}
 use Rattle.numbers.specs.Laws.{Codec}
 use Rattle.format.specs.Laws.{OneFile}
@@ -62,7 +62,7 @@ pub record Answers : Type 0 where
   pub orders : Determined comparisonOf
   pub passes : Determined passOf
   pub grids : Determined gridOf
-  pub numbers-read : Determined readOf
+  pub numbers-read : Determined foundOf
   pub points : Determined pointOf
 
 pub record OfElements : Type 0 where

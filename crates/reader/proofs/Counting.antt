@@ -9,7 +9,7 @@ use Rattle.paper.specs.Outcome.{Outcome, accepted, refused, mapped}
 use Rattle.leaves.specs.Leaves.{Leaf, Spot, spotAt}
 use Rattle.leaves.specs.Calls.{limit}
 use Rattle.leaves.proofs.Span.{power-pos}
-use Rattle.format.specs.Reading.{leavesOf, after, RunRead, runAt, runsAt, afterLast}
+use Rattle.format.specs.Reading.{leavesFrom, endFrom, FoundRun, runAt, runsAt, afterLast}
 use Rattle.format.proofs.Runs.{leaves-count}
 use Rattle.format.proofs.Fitting.{after-proper}
 use Rattle.format.proofs.Units.{upto-root}
@@ -30,16 +30,16 @@ ended-accepted N e = ap accepted (sym (add-zero N)) ∙ sym (ap (counted N) e)
 
 module _ (n L K : ℕ) (bs : List ℕ) (R i before : ℕ) (c : Spot) (N : ℕ) where
   -- one run more
-  pub count-more : (r : RunRead) → runAt n L bs K i before c N ≡ accepted r
-      → counted N (runsAt n L bs K (suc R) i before c N) ≡ counted (N + r .count) (runsAt n L bs K R (r .next) (r .level) (after n L c (r .level) (r .count)) (N + r .count))
+  pub count-more : (r : FoundRun) → runAt n L bs K i before c N ≡ accepted r
+      → counted N (runsAt n L bs K (suc R) i before c N) ≡ counted (N + r .count) (runsAt n L bs K R (r .next) (r .level) (endFrom n L c (r .level) (r .count)) (N + r .count))
   count-more r is =
       ap (counted N) (apart n L K bs R i before c N ∙ then-is (runAt n L bs K i before c N) (runStep n L K bs R c N) r is)
-      ∙ by (runsAt n L bs K R (r .next) (r .level) (after n L c (r .level) (r .count)) (N + r .count))
+      ∙ by (runsAt n L bs K R (r .next) (r .level) (endFrom n L c (r .level) (r .count)) (N + r .count))
     where
-      by : (o : Outcome (List Leaf)) → counted N (mapped (λ (vs : List Leaf). leavesOf n L c (r .level) (r .count) ++ vs) o) ≡ counted (N + r .count) o
+      by : (o : Outcome (List Leaf)) → counted N (mapped (λ (vs : List Leaf). leavesFrom n L c (r .level) (r .count) ++ vs) o) ≡ counted (N + r .count) o
       by (accepted vs) =
-          let long = length-append (leavesOf n L c (r .level) (r .count)) vs in
-          let all : N + length (leavesOf n L c (r .level) (r .count) ++ vs) ≡ N + r .count + length vs = omega (arith, leaves-count n L c (r .level) (r .count)) in
+          let long = length-append (leavesFrom n L c (r .level) (r .count)) vs in
+          let all : N + length (leavesFrom n L c (r .level) (r .count) ++ vs) ≡ N + r .count + length vs = omega (arith, leaves-count n L c (r .level) (r .count)) in
           ap accepted all
       by (refused number at) = refl
 
@@ -62,8 +62,8 @@ module _ (n L K : ℕ) (positive : 0 < n) (bs : List ℕ) (R₀ i₀ : ℕ) wher
   going-start = record { same = refl; few = omega arith; low = omega arith; proper = power-pos n L positive }
 
   module _ (R i before : ℕ) (c : Spot) (N : ℕ) (g : Going R i before c N) where
-    pub going-more : 0 < R → (r : RunRead) → runAt n L bs K i before c N ≡ accepted r
-        → (d : Spot) → d ≡ after n L c (r .level) (r .count) → Going (R - 1) (r .next) (r .level) d (N + r .count)
+    pub going-more : 0 < R → (r : FoundRun) → runAt n L bs K i before c N ≡ accepted r
+        → (d : Spot) → d ≡ endFrom n L c (r .level) (r .count) → Going (R - 1) (r .next) (r .level) d (N + r .count)
     going-more some r is d ends =
         let t = run-taken n L K bs i before c N r is in
         let one : R ≡ suc (R - 1) = omega arith in
@@ -71,7 +71,7 @@ module _ (n L K : ℕ) (positive : 0 < n) (bs : List ℕ) (R₀ i₀ : ℕ) wher
         (record {
           same = g .same ∙ ap (λ (m : ℕ). counted N (runsAt n L bs K m i before c N)) one ∙ count-more n L K bs (R - 1) i before c N r is;
           few = t .few;
-          low = upto-root K (after n L c (r .level) (r .count)) (sym (fits-is n L (r .level) K positive (t .shallow) c (g .proper) (fits-whole n L (r .level) K positive (t .shallow) c (r .count) (t .some) (t .fit)) (r .count) (t .some)) ∙ t .fit);
+          low = upto-root K (endFrom n L c (r .level) (r .count)) (sym (fits-is n L (r .level) K positive (t .shallow) c (g .proper) (fits-whole n L (r .level) K positive (t .shallow) c (r .count) (t .some) (t .fit)) (r .count) (t .some)) ∙ t .fit);
           proper = after-proper n L K positive c (r .level) (r .count) (g .proper) (t .shallow);
         })
 

@@ -15,7 +15,7 @@ use Rattle.leaves.specs.Stretch.{stretch, laid, Ran}
 use Rattle.leaves.proofs.Span.{power-pos, quotient, rest}
 use Rattle.leaves.proofs.Shift.{bits-le}
 use Rattle.leaves.proofs.Stretches.{laid-whole, ran-after, roots-long, levels-long, positions-long}
-use Rattle.format.specs.Reading.{after, leavesOf}
+use Rattle.format.specs.Reading.{endFrom, leavesFrom}
 use Rattle.format.proofs.Units.{quotient-order}
 use Rattle.format.proofs.Spots.{level-is, after-is, leaves-are}
 
@@ -61,14 +61,14 @@ module _ (b L l : ℕ) (narrow : b * L ≤ 63) (shallow : l ≤ L) (r q k : ℕ)
   Laid i d roots levels positions rs ls ps = Ran i (rows leafOf (q / span (2 ^ b) L l) d) roots levels positions rs ls ps
 
   pub laid-all-of : (i : ℕ) {roots levels positions rs ls ps : List ℕ} → Laid i k roots levels positions rs ls ps
-      → Ran i (leavesOf (2 ^ b) L (spotAt r q) l k) roots levels positions rs ls ps
+      → Ran i (leavesFrom (2 ^ b) L (spotAt r q) l k) roots levels positions rs ls ps
   laid-all-of i {roots} {levels} {positions} {rs} {ls} {ps} f =
       subst⁻¹ (λ (vs : List Leaf). Ran i vs roots levels positions rs ls ps) (leaves-are (2 ^ b) L l 0 (pow-pos b) shallow (spotAt r q) proper whole k) f
 
   -- the root of a leaf of the run
-  pub root-low : (d : ℕ) → d ≤ k → after (2 ^ b) L (spotAt r q) l k .root ≤ 4096 → r + (first + d) / 2 ^ (b * l) ≤ 4096
+  pub root-low : (d : ℕ) → d ≤ k → endFrom (2 ^ b) L (spotAt r q) l k .root ≤ 4096 → r + (first + d) / 2 ^ (b * l) ≤ 4096
   root-low d within low =
-      let end : after (2 ^ b) L (spotAt r q) l k .root ≡ r + (q / span (2 ^ b) L l + k) / (2 ^ b) ^ l =
+      let end : endFrom (2 ^ b) L (spotAt r q) l k .root ≡ r + (q / span (2 ^ b) L l + k) / (2 ^ b) ^ l =
       ap (λ (c : Spot). c .root) (after-is (2 ^ b) L l 0 (pow-pos b) shallow (spotAt r q) proper whole k) in
       let order = quotient-order (2 ^ (b * l)) (first + d) (first + k) (pow-pos (b * l)) (omega arith) in
       let same : (first + k) / 2 ^ (b * l) ≡ (q / span (2 ^ b) L l + k) / (2 ^ b) ^ l =

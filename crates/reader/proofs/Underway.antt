@@ -13,8 +13,8 @@ use Rattle.leaves.specs.Calls.{limit}
 use Rattle.leaves.specs.Stretch.{Ran, Passed}
 use Rattle.leaves.proofs.Span.{power-pos}
 use Rattle.leaves.proofs.Stretches.{roots-stay, levels-stay, positions-stay, passed-more}
-use Rattle.numbers.specs.Numbers.{read}
-use Rattle.format.specs.Reading.{leavesOf, after, RunRead, runAt, runsAt}
+use Rattle.numbers.specs.Numbers.{found}
+use Rattle.format.specs.Reading.{leavesFrom, endFrom, FoundRun, runAt, runsAt}
 use Rattle.reader.specs.Inner.{PairAt}
 use Rattle.format.proofs.Runs.{leaves-count}
 use Rattle.format.proofs.Fitting.{after-proper}
@@ -55,10 +55,10 @@ module _ (n L K : ℕ) (positive : 0 < n) (bs : List ℕ) (vs : List Leaf) (root
     pub shallow : lv ≤ L
     pub few : N + ct ≤ limit
     pub whole : c .cell % span n L lv ≡ 0
-    pub root-after : after n L c lv ct .root ≤ K
+    pub root-after : endFrom n L c lv ct .root ≤ K
     pub room : N + ct ≤ length vs
-    pub more : {rs′ ls′ ps′ : List ℕ} → length vs ≤ length roots → length vs ≤ length levels → length vs ≤ length positions → (d : Spot) → d ≡ after n L c lv ct
-        → Ran N (leavesOf n L c lv ct) rs ls ps rs′ ls′ ps′ → Underway (R - 1) nx d (N + ct) rs′ ls′ ps′
+    pub more : {rs′ ls′ ps′ : List ℕ} → length vs ≤ length roots → length vs ≤ length levels → length vs ≤ length positions → (d : Spot) → d ≡ endFrom n L c lv ct
+        → Ran N (leavesFrom n L c lv ct) rs ls ps rs′ ls′ ps′ → Underway (R - 1) nx d (N + ct) rs′ ls′ ps′
 
   module _ (R i : ℕ) (c : Spot) (N : ℕ) (rs ls ps : List ℕ) (u : Underway R i c N rs ls ps) where
     done-few : length (u .done) ≤ length vs
@@ -73,18 +73,18 @@ module _ (n L K : ℕ) (positive : 0 < n) (bs : List ℕ) (vs : List Leaf) (root
     pub positions-kept : length vs ≤ length positions → length ps ≡ length positions
     positions-kept room = positions-stay (u .done) (u .filled) (omega (arith, done-few))
 
-    turn-of : 0 < R → (r : RunRead) → RunTaken n L K bs i (u .before) c N r → (us : List Leaf) → leavesOf n L c (r .level) (r .count) ++ us ≡ u .rest
-        → runsAt n L bs K (R - 1) (r .next) (r .level) (after n L c (r .level) (r .count)) (N + r .count) ≡ accepted us
+    turn-of : 0 < R → (r : FoundRun) → RunTaken n L K bs i (u .before) c N r → (us : List Leaf) → leavesFrom n L c (r .level) (r .count) ++ us ≡ u .rest
+        → runsAt n L bs K (R - 1) (r .next) (r .level) (endFrom n L c (r .level) (r .count)) (N + r .count) ≡ accepted us
         → Turn R i c N rs ls ps (r .level) (r .count) (r .next)
     turn-of some r t us same later =
-        let run = leavesOf n L c (r .level) (r .count) in
+        let run = leavesFrom n L c (r .level) (r .count) in
         let many = leaves-count n L c (r .level) (r .count) in
         let divides = fits-whole n L (r .level) K positive (t .shallow) c (r .count) (t .some) (t .fit) in
         let all : vs ≡ (u .done ++ run) ++ us = u .split ∙ ap (λ (xs : List Leaf). u .done ++ xs) (sym same) ∙ sym (append-assoc (u .done) run us) in
         let size : length vs ≡ length (u .done) + r .count + length us =
         let long : length (u .done ++ run) ≡ length (u .done) + length run = length-append (u .done) run in
         omega (arith, ap length all, length-append (u .done ++ run) us, long, many) in
-        let upto = upto-root K (after n L c (r .level) (r .count)) (sym (fits-is n L (r .level) K positive (t .shallow) c (u .proper) divides (r .count) (t .some)) ∙ t .fit) in
+        let upto = upto-root K (endFrom n L c (r .level) (r .count)) (sym (fits-is n L (r .level) K positive (t .shallow) c (u .proper) divides (r .count) (t .some)) ∙ t .fit) in
         record {
           shallow = t .shallow;
           few = t .few;
@@ -113,8 +113,8 @@ module _ (n L K : ℕ) (positive : 0 < n) (bs : List ℕ) (vs : List Leaf) (root
         (sym (apart n L K bs (R - 1) i (u .before) c N) ∙ ap (λ (m : ℕ). runsAt n L bs K m i (u .before) c N) (sym one) ∙ u .left) in
         let r = first .0 in
         let t = run-taken n L K bs i (u .before) c N r (first .1 .0) in
-        let rest = mapped-accepted (λ (us : List Leaf). leavesOf n L c (r .level) (r .count) ++ us) _ (u .rest) (first .1 .1) in
-        let p = pair (read (r .level) (t .after-level)) (read (r .count) (r .next)) (t .level) (omega (arith, low, t .shallow)) (t .count) in
+        let rest = mapped-accepted (λ (us : List Leaf). leavesFrom n L c (r .level) (r .count) ++ us) _ (u .rest) (first .1 .1) in
+        let p = pair (found (r .level) (t .after-level)) (found (r .count) (r .next)) (t .level) (omega (arith, low, t .shallow)) (t .count) in
         subst⁻¹ (λ (x : ℕ). Turn R i c N rs ls ps x ct nx) (p .0)
         (subst⁻¹ (λ (x : ℕ). Turn R i c N rs ls ps (r .level) x nx) (p .1 .0)
         (subst⁻¹ (λ (x : ℕ). Turn R i c N rs ls ps (r .level) (r .count) x) (p .1 .1)

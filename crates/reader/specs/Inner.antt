@@ -12,8 +12,8 @@ use mathlib.Core.List.{List, []}
 use Prim.Native.Nat.{ℕ, _<_}
 use Rattle.paper.specs.Outcome.{Outcome, accepted, refused}
 use Rattle.leaves.specs.Leaves.{Leaf, Spot, spotAt}
-use Rattle.numbers.specs.Numbers.{Read, numberAt}
-use Rattle.format.specs.Reading.{Head, head, RunRead, runRead}
+use Rattle.numbers.specs.Numbers.{Found, numberAt}
+use Rattle.format.specs.Reading.{Head, head, FoundRun, foundRun}
 use Rattle.reader.specs.declared.Opening.{Opening}
 use Rattle.reader.specs.declared.RunAnswer.{RunAnswer}
 use Rattle.reader.specs.declared.Cursor.{Cursor}
@@ -24,8 +24,8 @@ abbrev pub headOf : Opening → Outcome Head
 headOf (opening.Is roots runs next) = accepted (head roots runs next)
 headOf (opening.Refused number at) = refused number at
 
-abbrev pub runOf : RunAnswer → Outcome RunRead
-runOf (run.Is level count next) = accepted (runRead level count next)
+abbrev pub runOf : RunAnswer → Outcome FoundRun
+runOf (run.Is level count next) = accepted (foundRun level count next)
 runOf (run.Refused number at) = refused number at
 
 abbrev pub spotOf : Cursor → Spot
@@ -36,9 +36,9 @@ listOf (accepted vs) = vs
 listOf (refused number at) = []
 
 abbrev pub CountAt : List ℕ → ℕ → ℕ → ℕ → ℕ → ℕ → Type 0
-CountAt bs i given level count next = (k : Read) → numberAt bs i ≡ accepted k → (level ≡ given) × ((count ≡ k .value) × (next ≡ k .next))
+CountAt bs i given level count next = (k : Found) → numberAt bs i ≡ accepted k → (level ≡ given) × ((count ≡ k .value) × (next ≡ k .next))
 
 abbrev pub PairAt : List ℕ → ℕ → ℕ → ℕ → ℕ → Type 0
 PairAt bs i level count next =
-    (l k : Read) → numberAt bs i ≡ accepted l → l .value < 256 → numberAt bs (l .next) ≡ accepted k
+    (l k : Found) → numberAt bs i ≡ accepted l → l .value < 256 → numberAt bs (l .next) ≡ accepted k
     → (level ≡ l .value) × ((count ≡ k .value) × (next ≡ k .next))

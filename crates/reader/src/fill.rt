@@ -2,7 +2,7 @@
 use crate::Cursor;
 use crate::Pair;
 use crate::walk;
-use numbers::NumberRead;
+use numbers::FoundNumber;
 ghost use mathlib.Core.Path.{_≡_};
 ghost use Prim.Native.Nat.{suc, _+_, _*_, _%_, _^_, _≤_, _<_};
 ghost use lib.ListN.{length};
@@ -10,7 +10,7 @@ ghost use Rattle.paper.specs.Outcome.{accepted};
 ghost use Rattle.leaves.specs.Leaves.{spotAt, span};
 ghost use Rattle.leaves.specs.Stretch.{Ran, Passed};
 ghost use Rattle.format.specs.Reading as reading;
-ghost use Rattle.format.specs.Reading.{leavesOf, runsAt};
+ghost use Rattle.format.specs.Reading.{leavesFrom, runsAt};
 ghost use Rattle.reader.specs.Inner.{spotOf, listOf, PairAt, CountAt};
 
 // The leaves of so many runs, the first at `at`, of k roots.
@@ -57,8 +57,8 @@ fn pair_at(bytes: &[u8], at: usize) -> Pair
     ensures { λ r. ⌜ PairAt (now (bytes .entry)) at (r .level) (r .count) (r .next) ⌝ }
 {
     match numbers::number_at(bytes, at) {
-        NumberRead::Is(level, next) => count_at(bytes, (level % 256) as u8, next),
-        NumberRead::Refused(_, _) => Pair {
+        FoundNumber::Is(level, next) => count_at(bytes, (level % 256) as u8, next),
+        FoundNumber::Refused(_, _) => Pair {
             level: 0,
             count: 0,
             next: at,
@@ -71,8 +71,8 @@ fn count_at(bytes: &[u8], level: u8, at: usize) -> Pair
     ensures { λ r. ⌜ CountAt (now (bytes .entry)) at level (r .level) (r .count) (r .next) ⌝ }
 {
     match numbers::number_at(bytes, at) {
-        NumberRead::Is(count, next) => Pair { level, count, next },
-        NumberRead::Refused(_, _) => Pair {
+        FoundNumber::Is(count, next) => Pair { level, count, next },
+        FoundNumber::Refused(_, _) => Pair {
             level,
             count: 0,
             next: at,
@@ -92,8 +92,8 @@ fn run(
     levels: &mut [u8],
     positions: &mut [u64],
 )
-    requires { ⌜ (0 < bits) × ((bits * highest ≤ 63) × ((level ≤ highest) × ((spot .cell < (2 ^ bits) ^ highest) × ((spot .cell % span (2 ^ bits) highest level ≡ 0) × ((reading.after (2 ^ bits) highest (spotOf spot) level count .root ≤ 4096) × ((at + count ≤ length (now roots)) × ((at + count ≤ length (now levels)) × (at + count ≤ length (now positions))))))))) ⌝ }
-    ensures { λ _. ⌜ Ran at (leavesOf (2 ^ bits) highest (spotOf spot) level count) (now (roots .entry)) (now (levels .entry)) (now (positions .entry)) (now (roots .exit)) (now (levels .exit)) (now (positions .exit)) ⌝ }
+    requires { ⌜ (0 < bits) × ((bits * highest ≤ 63) × ((level ≤ highest) × ((spot .cell < (2 ^ bits) ^ highest) × ((spot .cell % span (2 ^ bits) highest level ≡ 0) × ((reading.endFrom (2 ^ bits) highest (spotOf spot) level count .root ≤ 4096) × ((at + count ≤ length (now roots)) × ((at + count ≤ length (now levels)) × (at + count ≤ length (now positions))))))))) ⌝ }
+    ensures { λ _. ⌜ Ran at (leavesFrom (2 ^ bits) highest (spotOf spot) level count) (now (roots .entry)) (now (levels .entry)) (now (positions .entry)) (now (roots .exit)) (now (levels .exit)) (now (positions .exit)) ⌝ }
 {
     let wide = bits * level;
     let each = 1u64 << wide;

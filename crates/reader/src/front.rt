@@ -1,9 +1,9 @@
 // What stands in front of the runs: the tag, K, and the number of runs.
 use crate::Opening;
 use format::TAG;
-use numbers::NumberRead;
+use numbers::FoundNumber;
 ghost use mathlib.Core.Path.{_≡_};
-ghost use Rattle.numbers.specs.Numbers.{read};
+ghost use Rattle.numbers.specs.Numbers.{found};
 ghost use Rattle.format.specs.Reading.{opens, afterRuns, afterRoots, headAt};
 ghost use Rattle.reader.specs.Inner.{headOf};
 
@@ -15,8 +15,8 @@ pub(crate) fn of_file(bytes: &[u8]) -> Opening
         return Opening::Refused(18, 0);
     }
     match numbers::number_at(bytes, 4) {
-        NumberRead::Is(k, next) => after_roots(bytes, k, next),
-        NumberRead::Refused(number, place) => Opening::Refused(number, place),
+        FoundNumber::Is(k, next) => after_roots(bytes, k, next),
+        FoundNumber::Refused(number, place) => Opening::Refused(number, place),
     }
 }
 
@@ -42,7 +42,7 @@ fn tagged(bytes: &[u8]) -> bool
 
 // K was read, and what follows it is at `at`.
 fn after_roots(bytes: &[u8], k: u32, at: usize) -> Opening
-    ensures { λ r. ⌜ headOf r ≡ afterRoots (now (bytes .entry)) (read k at) ⌝ }
+    ensures { λ r. ⌜ headOf r ≡ afterRoots (now (bytes .entry)) (found k at) ⌝ }
 {
     if k == 0 {
         return Opening::Refused(17, 4);
@@ -51,14 +51,14 @@ fn after_roots(bytes: &[u8], k: u32, at: usize) -> Opening
         return Opening::Refused(17, 4);
     }
     match numbers::number_at(bytes, at) {
-        NumberRead::Is(runs, next) => after_runs(k as u16, at, runs, next),
-        NumberRead::Refused(number, place) => Opening::Refused(number, place),
+        FoundNumber::Is(runs, next) => after_runs(k as u16, at, runs, next),
+        FoundNumber::Refused(number, place) => Opening::Refused(number, place),
     }
 }
 
 // The number of runs was read at `at`, and what follows it is at `next`.
 fn after_runs(k: u16, at: usize, runs: u32, next: usize) -> Opening
-    ensures { λ r. ⌜ headOf r ≡ afterRuns (read k at) (read runs next) ⌝ }
+    ensures { λ r. ⌜ headOf r ≡ afterRuns (found k at) (found runs next) ⌝ }
 {
     if runs == 0 {
         return Opening::Refused(21, at as u64);

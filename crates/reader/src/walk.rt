@@ -1,7 +1,7 @@
 // The first pass over the runs of a file: how far it is sound. A run is tested without being expanded, counted in leaves of its own level.
 use crate::Cursor;
 use crate::RunAnswer;
-use numbers::NumberRead;
+use numbers::FoundNumber;
 use paper::NumberAnswer;
 ghost use mathlib.Core.Path.{_≡_};
 ghost use mathlib.Core.List.{List};
@@ -10,7 +10,7 @@ ghost use lib.ListN.{length};
 ghost use Rattle.paper.specs.Outcome.{mapped};
 ghost use Rattle.paper.specs.Readings.{valueOf};
 ghost use Rattle.leaves.specs.Leaves.{Leaf, spotAt, span};
-ghost use Rattle.numbers.specs.Numbers.{read};
+ghost use Rattle.numbers.specs.Numbers.{found};
 ghost use Rattle.format.specs.Reading as reading;
 ghost use Rattle.format.specs.Reading.{afterCount, afterLevel, afterLast, runAt, runsAt, upto};
 ghost use Rattle.reader.specs.Inner.{runOf, spotOf};
@@ -80,7 +80,7 @@ fn run_at(
     ensures { λ r. ⌜ runOf r ≡ runAt (2 ^ bits) highest (now (bytes .entry)) k at before (spotOf spot) leaves ⌝ }
 {
     match numbers::number_at(bytes, at) {
-        NumberRead::Is(level, next) => after_level(
+        FoundNumber::Is(level, next) => after_level(
             bits,
             highest,
             k,
@@ -92,7 +92,7 @@ fn run_at(
             next,
             bytes,
         ),
-        NumberRead::Refused(number, place) => RunAnswer::Refused(number, place),
+        FoundNumber::Refused(number, place) => RunAnswer::Refused(number, place),
     }
 }
 
@@ -110,7 +110,7 @@ fn after_level(
     bytes: &[u8],
 ) -> RunAnswer
     requires { ⌜ (0 < bits) × ((bits * highest ≤ 63) × ((leaves ≤ 1048576) × ((spot .root ≤ 4096) × (spot .cell < (2 ^ bits) ^ highest)))) ⌝ }
-    ensures { λ r. ⌜ runOf r ≡ afterLevel (2 ^ bits) highest (now (bytes .entry)) k at before (spotOf spot) leaves (read level next) ⌝ }
+    ensures { λ r. ⌜ runOf r ≡ afterLevel (2 ^ bits) highest (now (bytes .entry)) k at before (spotOf spot) leaves (found level next) ⌝ }
 {
     if (highest as u32) < level {
         return RunAnswer::Refused(1, at as u64);
@@ -119,7 +119,7 @@ fn after_level(
         return RunAnswer::Refused(21, at as u64);
     }
     match numbers::number_at(bytes, next) {
-        NumberRead::Is(count, after) => after_count(
+        FoundNumber::Is(count, after) => after_count(
             bits,
             highest,
             k,
@@ -131,7 +131,7 @@ fn after_level(
             count,
             after,
         ),
-        NumberRead::Refused(number, place) => RunAnswer::Refused(number, place),
+        FoundNumber::Refused(number, place) => RunAnswer::Refused(number, place),
     }
 }
 
@@ -149,7 +149,7 @@ fn after_count(
     next: usize,
 ) -> RunAnswer
     requires { ⌜ (0 < bits) × ((bits * highest ≤ 63) × ((level ≤ highest) × ((leaves ≤ 1048576) × ((spot .root ≤ 4096) × (spot .cell < (2 ^ bits) ^ highest))))) ⌝ }
-    ensures { λ r. ⌜ runOf r ≡ afterCount (2 ^ bits) highest k at (spotOf spot) leaves (read level counted) (read count next) ⌝ }
+    ensures { λ r. ⌜ runOf r ≡ afterCount (2 ^ bits) highest k at (spotOf spot) leaves (found level counted) (found count next) ⌝ }
 {
     if count == 0 {
         return RunAnswer::Refused(21, counted as u64);
@@ -182,7 +182,7 @@ fn within(k: u16, spot: Cursor) -> bool
 // Where so many leaves of a level end that start at a place: counted in leaves of the level, then whole roots and the leaves after them.
 pub(crate) fn after(bits: u8, highest: u8, level: u8, count: u32, spot: Cursor) -> Cursor
     requires { ⌜ (0 < bits) × ((bits * highest ≤ 63) × ((level ≤ highest) × ((spot .root ≤ 4096) × ((spot .cell < (2 ^ bits) ^ highest) × (spot .cell % span (2 ^ bits) highest level ≡ 0))))) ⌝ }
-    ensures { λ r. ⌜ spotOf r ≡ reading.after (2 ^ bits) highest (spotOf spot) level count ⌝ }
+    ensures { λ r. ⌜ spotOf r ≡ reading.endFrom (2 ^ bits) highest (spotOf spot) level count ⌝ }
 {
     let narrow = bits * (highest - level);
     let wide = bits * level;

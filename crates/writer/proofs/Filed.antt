@@ -4,29 +4,35 @@ use mathlib.Core.Bool.{true}
 use mathlib.Core.List.{List, _++_}
 use Prim.Native.Nat.{ℕ, _+_, _≤_, _<_}
 use native.Mathlib.Omega.{arith}
+use lib.Dec.{ltb}
 use lib.ListN.{length, length-append}
 use borrow.Author.Tests.{lt-ltb, le-ltb}
 use Rattle.paper.specs.Outcome.{Outcome, accepted, refused, passed}
-use Rattle.paper.specs.Memory.{written}
+use Rattle.paper.specs.Memory.{written, roomFor}
+use Rattle.paper.specs.Readings.{valueOf}
+use Rattle.paper.proofs.Memory.{refuses, accepts}
 use Rattle.leaves.specs.Leaves.{leaves}
 use Rattle.leaves.specs.Laws.{ValidList}
 use Rattle.leaves.specs.Calls.{listed}
 use Rattle.leaves.proofs.Listed.{columns-sound, listed-passed, listed-refused}
 use Rattle.numbers.specs.Numbers.{bytesOf}
-use Rattle.format.specs.File.{runBytes, tag, fileOf, levelRuns}
-use Rattle.writer.specs.Calls.{sized, writing, FileWritten}
+use Rattle.format.specs.File.{runBytes, tag, fileOf, runsIn}
+use Rattle.format.proofs.Tests.{stops}
+use Rattle.writer.specs.Calls.{write, FileWritten}
 use Rattle.writer.specs.Inner.{levelFile, Counted}
 use Rattle.writer.proofs.Writing.{level-runs-few, run-bytes-few, file-levels}
 use Rattle.numbers.proofs.Cases.{few-bytes}
 use Rattle.paper.specs.declared.NumberAnswer.the-variants as number
 
 module _ (k : ℕ) (rs ls ps bs : List ℕ) where
-  abbrev call : Outcome ℕ
-  call = writing 8 21 k rs ls ps (length bs)
+  abbrev call : Outcome (List ℕ)
+  call = write 8 21 k rs ls ps (length bs)
 
   pub leaves-refused : (fault spot : ℕ) → listed 8 21 k true true rs ls ps passed ≡ refused fault spot
       → FileWritten k (number.Refused fault spot) rs ls ps bs bs
-  leaves-refused fault spot h = record { answer = sym (listed-refused 8 21 k true true rs ls ps _ fault spot h); written = refl }
+  leaves-refused fault spot h =
+      refuses valueOf (λ (file : List ℕ). length file) written call (number.Refused fault spot) bs fault spot
+      (listed-refused 8 21 k true true rs ls ps _ fault spot h) refl
 
   module _ (sound : listed 8 21 k true true rs ls ps passed ≡ passed) where
     columns-of : ValidList 8 21 k rs ls ps
@@ -38,15 +44,15 @@ module _ (k : ℕ) (rs ls ps bs : List ℕ) where
     file : fileOf k (leaves rs ls ps) ≡ levelFile k ls
     file = file-levels rs ls ps k (columns-of .levels-long)
 
-    onward : call ≡ sized (length (levelFile k ls)) (length bs)
-    onward = listed-passed 8 21 k true true rs ls ps _ sound ∙ ap (λ (f : List ℕ). sized (length f) (length bs)) file
+    onward : call ≡ roomFor (length (levelFile k ls)) (length bs) (levelFile k ls)
+    onward = listed-passed 8 21 k true true rs ls ps _ sound ∙ ap (λ (f : List ℕ). roomFor (length f) (length bs) f) file
 
     module _ (R b : ℕ) (c : Counted ls R b) where
       pub few-runs : (R ≤ 1048576) × (b ≤ 6291456)
       few-runs =
           let few = few-levels in
           let one = level-runs-few ls in
-          (omega (arith, c .runs), omega (arith, c .bytes, run-bytes-few (levelRuns ls)))
+          (omega (arith, c .runs), omega (arith, c .bytes, run-bytes-few (runsIn ls)))
 
       -- m and u bytes for K and R
       module _ (m u : ℕ) (one : m ≡ length (bytesOf k)) (two : u ≡ length (bytesOf R)) where
@@ -55,8 +61,8 @@ module _ (k : ℕ) (rs ls ps bs : List ℕ) where
 
         size-is : 4 + m + u + b ≡ length (levelFile k ls)
         size-is =
-            let pairs = runBytes (levelRuns ls) in
-            let count = bytesOf (length (levelRuns ls)) in
+            let pairs = runBytes (runsIn ls) in
+            let count = bytesOf (length (runsIn ls)) in
             omega (
               arith,
               c .bytes,
@@ -68,18 +74,17 @@ module _ (k : ℕ) (rs ls ps bs : List ℕ) where
 
         pub no-room-14 : length bs < 4 + m + u + b → FileWritten k (number.Refused 14 (4 + m + u + b)) rs ls ps bs bs
         no-room-14 short =
-            record {
-              answer = ap (refused 14) size-is ∙ sym (onward ∙ simp (lt-ltb (length bs) (length (levelFile k ls)) (omega (arith, size-is))));
-              written = refl;
-            }
+            refuses valueOf (λ (f : List ℕ). length f) written call (number.Refused 14 (4 + m + u + b)) bs 14 (4 + m + u + b)
+            (onward
+            ∙ stops (ltb (length bs) (length (levelFile k ls))) 14 (length (levelFile k ls)) _ (lt-ltb (length bs) (length (levelFile k ls)) (omega (arith, size-is)))
+            ∙ ap (refused 14) (sym size-is))
+            refl
 
         module _ (enough : 4 + m + u + b ≤ length bs) where
           pub room : length (levelFile k ls) ≤ length bs
           room = omega (arith, size-is)
 
           pub file-written : {bs′ : List ℕ} → bs′ ≡ written (levelFile k ls) bs → FileWritten k (number.Is (4 + m + u + b)) rs ls ps bs bs′
-          file-written put =
-              record {
-                answer = ap accepted size-is ∙ sym (onward ∙ simp (le-ltb (length bs) (length (levelFile k ls)) room));
-                written = put ∙ sym (ap (λ (f : List ℕ). written f bs) file);
-              }
+          file-written {bs′} put =
+              accepts valueOf (λ (f : List ℕ). length f) written call (number.Is (4 + m + u + b)) bs (levelFile k ls) bs′
+              (onward ∙ simp (le-ltb (length bs) (length (levelFile k ls)) room)) (ap accepted size-is) put

@@ -9,7 +9,7 @@ use lib.Seq.{sets, length-sets}
 use Rattle.paper.specs.Memory.{written}
 use Rattle.paper.proofs.Front.{written-run}
 use Rattle.numbers.specs.Numbers.{bytesOf}
-use Rattle.format.specs.File.{runBytes, tag, levelRuns}
+use Rattle.format.specs.File.{runBytes, tag, runsIn}
 use Rattle.writer.specs.Inner.{levelFile, RunEnd}
 use Rattle.writer.proofs.Writing.{bytes-first}
 
@@ -24,17 +24,17 @@ sets-append l i (x ∷ xs) ys =
 pub record Stored (ls : List ℕ) (start : ℕ) (whole : List ℕ) (i at : ℕ) (bs : List ℕ) : Type 0 where
   pub upto : i ≤ length ls
   pub long : length bs ≡ length whole
-  pub room : at + length (runBytes (levelRuns (drop i ls))) ≤ length bs
-  pub onward : sets bs at (runBytes (levelRuns (drop i ls))) ≡ sets whole start (runBytes (levelRuns ls))
+  pub room : at + length (runBytes (runsIn (drop i ls))) ≤ length bs
+  pub onward : sets bs at (runBytes (runsIn (drop i ls))) ≡ sets whole start (runBytes (runsIn ls))
 
 module _ (ls : List ℕ) (start : ℕ) (whole : List ℕ) where
-  pub stored-none : start + length (runBytes (levelRuns ls)) ≤ length whole → Stored ls start whole 0 start whole
+  pub stored-none : start + length (runBytes (runsIn ls)) ≤ length whole → Stored ls start whole 0 start whole
   stored-none room = record { upto = omega arith; long = refl; room = room; onward = refl }
 
   module _ (i at : ℕ) (bs : List ℕ) (s : Stored ls start whole i at bs) where
-    pub stored-done : length ls ≤ i → bs ≡ sets whole start (runBytes (levelRuns ls))
-    unfolding levelRuns runBytes
-    stored-done past = sym (ap (λ (t : List ℕ). sets bs at (runBytes (levelRuns t))) (drop-of-length-le ls {i = i} past)) ∙ s .onward
+    pub stored-done : length ls ≤ i → bs ≡ sets whole start (runBytes (runsIn ls))
+    unfolding runsIn runBytes
+    stored-done past = sym (ap (λ (t : List ℕ). sets bs at (runBytes (runsIn t))) (drop-of-length-le ls {i = i} past)) ∙ s .onward
 
     module _ (j : ℕ) (e : RunEnd ls i j) where
       abbrev level : List ℕ
@@ -44,7 +44,7 @@ module _ (ls : List ℕ) (start : ℕ) (whole : List ℕ) where
       count = bytesOf (j - i)
 
       abbrev rest : List ℕ
-      rest = runBytes (levelRuns (drop j ls))
+      rest = runBytes (runsIn (drop j ls))
 
       pub room-run : at + length level + length count + length rest ≤ length bs
       room-run = omega (arith, s .room, ap length (bytes-first ls i j e), length-append level (count ++ rest), length-append count rest)
@@ -72,9 +72,9 @@ module _ (ls : List ℕ) (start : ℕ) (whole : List ℕ) where
               }
 
 -- ---- the whole file, number by number
-module _ (K R : ℕ) (ls bs : List ℕ) (runs : R ≡ length (levelRuns ls)) (room : length (levelFile K ls) ≤ length bs) where
+module _ (K R : ℕ) (ls bs : List ℕ) (runs : R ≡ length (runsIn ls)) (room : length (levelFile K ls) ≤ length bs) where
   abbrev pairs : List ℕ
-  pairs = runBytes (levelRuns ls)
+  pairs = runBytes (runsIn ls)
 
   whole : levelFile K ls ≡ tag ++ (bytesOf K ++ (bytesOf R ++ pairs))
   whole = ap (λ (k : ℕ). tag ++ (bytesOf K ++ (bytesOf k ++ pairs))) (sym runs)

@@ -1,7 +1,7 @@
 -- Inner contracts: what the code's own functions ask and answer. A reader of the promises may skip this file.
 -- Here: the file of a list by its levels alone. Definitions only.
 --
---   levelFile K ls      the file of such a list of K roots
+--   levelFile K ls      the file of a list of K roots whose leaves have the levels ls
 --   OneLevel ls l j n   the n levels from j on are l
 --   Alike ls i j        the leaves from i on are of one level as far as j
 --   RunEnd ls i j       the run that begins with leaf i ends before leaf j: "Neighbouring runs differ in level"
@@ -11,14 +11,13 @@
 --
 -- Assumes nothing.
 use mathlib.Core.Path.{_≡_}
-use mathlib.Core.List.{List, _++_}
+use mathlib.Core.List.{List}
 use Prim.Native.Nat.{ℕ, _+_, _≤_, _<_}
 use lib.ListN.{length, getD}
-use Rattle.numbers.specs.Numbers.{bytesOf}
-use Rattle.format.specs.File.{levelRuns, runBytes, tag}
+use Rattle.format.specs.File.{runsIn, runBytes, runsFile}
 
 abbrev pub levelFile : ℕ → List ℕ → List ℕ
-levelFile K ls = tag ++ (bytesOf K ++ (bytesOf (length (levelRuns ls)) ++ runBytes (levelRuns ls)))
+levelFile K ls = runsFile K (runsIn ls)
 
 abbrev pub OneLevel : List ℕ → ℕ → ℕ → ℕ → Type 0
 OneLevel ls l j n = (t : ℕ) → t < n → getD ls (j + t) 0 ≡ l
@@ -33,5 +32,5 @@ pub record RunEnd (ls : List ℕ) (i j : ℕ) : Type 0 where
   pub other : j < length ls → getD ls i 0 ≡ getD ls j 0 → ⊥
 
 pub record Counted (ls : List ℕ) (R b : ℕ) : Type 0 where
-  pub runs : R ≡ length (levelRuns ls)
-  pub bytes : b ≡ length (runBytes (levelRuns ls))
+  pub runs : R ≡ length (runsIn ls)
+  pub bytes : b ≡ length (runBytes (runsIn ls))

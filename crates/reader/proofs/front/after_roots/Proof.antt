@@ -2,17 +2,17 @@
 use mathlib.Core.Path.{ap, _∙_, sym}
 use borrow.Author.Needs.{needs}
 use native.Mathlib.Omega.{arith}
-use Rattle.numbers.specs.Numbers.{read}
-use Rattle.numbers.specs.Answers.{readOf}
+use Rattle.numbers.specs.Numbers.{found}
+use Rattle.numbers.specs.Answers.{foundOf}
 use Rattle.format.proofs.Tests.{no-roots, many-roots, runs-read, runs-refused}
 use Rattle.reader.proofs.front.after_roots.Statement.{statement}
 use Rattle.reader.proofs.front.after_roots.Tie as tie
 
 returns : tie.Need-returns
-returns c = sym (no-roots (c .before .before .args .bytes .now) (read (c .before .before .args .k) (c .before .before .args .at)) (c .if1 .taken))
+returns c = sym (no-roots (c .before .before .args .bytes .now) (found (c .before .before .args .k) (c .before .before .args .at)) (c .if1 .taken))
 
 returns-2 : tie.Need-returns-2
-returns-2 c = sym (many-roots (c .before .before .before .args .bytes .now) (read (c .before .before .before .args .k) (c .before .before .before .args .at)) (c .before .if1 .left) (c .if2 .taken))
+returns-2 c = sym (many-roots (c .before .before .before .args .bytes .now) (found (c .before .before .before .args .k) (c .before .before .before .args .at)) (c .before .if1 .left) (c .if2 .taken))
 
 number-at-requires : tie.Need-number-at-requires
 number-at-requires c κs = search needs
@@ -30,10 +30,10 @@ enum-known-number : tie.Need-enum-known-number
 enum-known-number c = search needs
 
 returns-3 : tie.Need-returns-3
-returns-3 c = (c .after-runs .ensures) ∙ sym (runs-read (c .before .before .before .before .before .before .before .before .args .bytes .now) (read (c .before .before .before .before .before .before .before .before .args .k) (c .before .before .before .before .before .before .before .before .args .at)) (c .before .before .before .before .before .before .if1 .left) (c .before .before .before .before .before .if2 .left) _ (sym (c .before .before .before .before .number-at .ensures) ∙ ap readOf (c .before .before .runs .given .1)))
+returns-3 c = (c .after-runs .ensures) ∙ sym (runs-read (c .before .before .before .before .before .before .before .before .args .bytes .now) (found (c .before .before .before .before .before .before .before .before .args .k) (c .before .before .before .before .before .before .before .before .args .at)) (c .before .before .before .before .before .before .if1 .left) (c .before .before .before .before .before .if2 .left) _ (sym (c .before .before .before .before .number-at .ensures) ∙ ap foundOf (c .before .before .runs .given .1)))
 
 returns-4 : tie.Need-returns-4
-returns-4 c = sym (runs-refused (c .before .before .before .before .before .before .before .args .bytes .now) (read (c .before .before .before .before .before .before .before .args .k) (c .before .before .before .before .before .before .before .args .at)) (c .before .before .before .before .before .if1 .left) (c .before .before .before .before .if2 .left) _ _ (sym (c .before .before .before .number-at .ensures) ∙ ap readOf (c .before .number .given .1)))
+returns-4 c = sym (runs-refused (c .before .before .before .before .before .before .before .args .bytes .now) (found (c .before .before .before .before .before .before .before .args .k) (c .before .before .before .before .before .before .before .args .at)) (c .before .before .before .before .before .if1 .left) (c .before .before .before .before .if2 .left) _ _ (sym (c .before .before .before .number-at .ensures) ∙ ap foundOf (c .before .number .given .1)))
 
 pub after-roots-spec : {M : Type 1} → statement M
 after-roots-spec =

@@ -2,7 +2,7 @@
 use mathlib.Core.Path.{ap, _∙_, sym}
 use borrow.Author.Needs.{needs}
 use borrow.Author.Tests.{not-true, not-false}
-use Rattle.numbers.specs.Answers.{readOf}
+use Rattle.numbers.specs.Answers.{foundOf}
 use Rattle.format.proofs.Tests.{not-tagged, roots-read, roots-refused}
 use Rattle.reader.proofs.front.of_file.Statement.{statement}
 use Rattle.reader.proofs.front.of_file.Tie as tie
@@ -26,10 +26,10 @@ enum-known-number : tie.Need-enum-known-number
 enum-known-number c = search needs
 
 returns-2 : tie.Need-returns-2
-returns-2 c = (c .after-roots .ensures) ∙ sym (roots-read (c .before .before .before .before .before .before .before .before .args .bytes .now) (sym (c .before .before .before .before .before .before .tagged .ensures) ∙ not-false (c .before .before .before .before .before .before .tagged .result) (c .before .before .before .before .before .if1 .left)) _ (sym (c .before .before .before .before .number-at .ensures) ∙ ap readOf (c .before .before .k .given .1)))
+returns-2 c = (c .after-roots .ensures) ∙ sym (roots-read (c .before .before .before .before .before .before .before .before .args .bytes .now) (sym (c .before .before .before .before .before .before .tagged .ensures) ∙ not-false (c .before .before .before .before .before .before .tagged .result) (c .before .before .before .before .before .if1 .left)) _ (sym (c .before .before .before .before .number-at .ensures) ∙ ap foundOf (c .before .before .k .given .1)))
 
 returns-3 : tie.Need-returns-3
-returns-3 c = sym (roots-refused (c .before .before .before .before .before .before .before .args .bytes .now) (sym (c .before .before .before .before .before .tagged .ensures) ∙ not-false (c .before .before .before .before .before .tagged .result) (c .before .before .before .before .if1 .left)) _ _ (sym (c .before .before .before .number-at .ensures) ∙ ap readOf (c .before .number .given .1)))
+returns-3 c = sym (roots-refused (c .before .before .before .before .before .before .before .args .bytes .now) (sym (c .before .before .before .before .before .tagged .ensures) ∙ not-false (c .before .before .before .before .before .tagged .result) (c .before .before .before .before .if1 .left)) _ _ (sym (c .before .before .before .number-at .ensures) ∙ ap foundOf (c .before .number .given .1)))
 
 pub of-file-spec : {M : Type 1} → statement M
 of-file-spec =

@@ -3,18 +3,18 @@ use mathlib.Core.Path.{_∙_, ap, sym}
 use Prim.Native.Nat.{_^_}
 use native.Mathlib.Omega.{arith}
 use borrow.Author.Needs.{needs}
-use Rattle.numbers.specs.Numbers.{read}
-use Rattle.numbers.specs.Answers.{readOf}
+use Rattle.numbers.specs.Numbers.{found}
+use Rattle.numbers.specs.Answers.{foundOf}
 use Rattle.reader.specs.Inner.{spotOf}
 use Rattle.format.proofs.Tests.{too-deep, same-level, count-read, count-refused}
 use Rattle.reader.proofs.walk.after_level.Statement.{statement}
 use Rattle.reader.proofs.walk.after_level.Tie as tie
 
 returns : tie.Need-returns
-returns c = sym (too-deep (2 ^ (c .before .before .args .bits)) (c .before .before .args .highest) (c .before .before .args .k) (c .before .before .args .at) (spotOf (c .before .before .args .spot)) (c .before .before .args .leaves) (read (c .before .before .args .level) (c .before .before .args .next)) (c .before .before .args .bytes .now) (c .before .before .args .before) (c .if1 .taken))
+returns c = sym (too-deep (2 ^ (c .before .before .args .bits)) (c .before .before .args .highest) (c .before .before .args .k) (c .before .before .args .at) (spotOf (c .before .before .args .spot)) (c .before .before .args .leaves) (found (c .before .before .args .level) (c .before .before .args .next)) (c .before .before .args .bytes .now) (c .before .before .args .before) (c .if1 .taken))
 
 returns-2 : tie.Need-returns-2
-returns-2 c = sym (same-level (2 ^ (c .before .before .before .args .bits)) (c .before .before .before .args .highest) (c .before .before .before .args .k) (c .before .before .before .args .at) (spotOf (c .before .before .before .args .spot)) (c .before .before .before .args .leaves) (read (c .before .before .before .args .level) (c .before .before .before .args .next)) (c .before .before .before .args .bytes .now) (c .before .before .before .args .before) (c .before .if1 .left) (c .if2 .taken))
+returns-2 c = sym (same-level (2 ^ (c .before .before .before .args .bits)) (c .before .before .before .args .highest) (c .before .before .before .args .k) (c .before .before .before .args .at) (spotOf (c .before .before .before .args .spot)) (c .before .before .before .args .leaves) (found (c .before .before .before .args .level) (c .before .before .before .args .next)) (c .before .before .before .args .bytes .now) (c .before .before .before .args .before) (c .before .if1 .left) (c .if2 .taken))
 
 number-at-requires : tie.Need-number-at-requires
 number-at-requires c κs = search needs
@@ -32,10 +32,10 @@ enum-known-number : tie.Need-enum-known-number
 enum-known-number c = search needs
 
 returns-3 : tie.Need-returns-3
-returns-3 c = (c .after-count .ensures) ∙ sym (count-read (2 ^ (c .before .before .before .before .before .before .before .before .args .bits)) (c .before .before .before .before .before .before .before .before .args .highest) (c .before .before .before .before .before .before .before .before .args .k) (c .before .before .before .before .before .before .before .before .args .at) (spotOf (c .before .before .before .before .before .before .before .before .args .spot)) (c .before .before .before .before .before .before .before .before .args .leaves) (read (c .before .before .before .before .before .before .before .before .args .level) (c .before .before .before .before .before .before .before .before .args .next)) (c .before .before .before .before .before .before .before .before .args .bytes .now) (c .before .before .before .before .before .before .before .before .args .before) (c .before .before .before .before .before .before .if1 .left) (c .before .before .before .before .before .if2 .left) _ (sym (c .before .before .before .before .number-at .ensures) ∙ ap readOf (c .before .before .count .given .1)))
+returns-3 c = (c .after-count .ensures) ∙ sym (count-read (2 ^ (c .before .before .before .before .before .before .before .before .args .bits)) (c .before .before .before .before .before .before .before .before .args .highest) (c .before .before .before .before .before .before .before .before .args .k) (c .before .before .before .before .before .before .before .before .args .at) (spotOf (c .before .before .before .before .before .before .before .before .args .spot)) (c .before .before .before .before .before .before .before .before .args .leaves) (found (c .before .before .before .before .before .before .before .before .args .level) (c .before .before .before .before .before .before .before .before .args .next)) (c .before .before .before .before .before .before .before .before .args .bytes .now) (c .before .before .before .before .before .before .before .before .args .before) (c .before .before .before .before .before .before .if1 .left) (c .before .before .before .before .before .if2 .left) _ (sym (c .before .before .before .before .number-at .ensures) ∙ ap foundOf (c .before .before .count .given .1)))
 
 returns-4 : tie.Need-returns-4
-returns-4 c = sym (count-refused (2 ^ (c .before .before .before .before .before .before .before .args .bits)) (c .before .before .before .before .before .before .before .args .highest) (c .before .before .before .before .before .before .before .args .k) (c .before .before .before .before .before .before .before .args .at) (spotOf (c .before .before .before .before .before .before .before .args .spot)) (c .before .before .before .before .before .before .before .args .leaves) (read (c .before .before .before .before .before .before .before .args .level) (c .before .before .before .before .before .before .before .args .next)) (c .before .before .before .before .before .before .before .args .bytes .now) (c .before .before .before .before .before .before .before .args .before) (c .before .before .before .before .before .if1 .left) (c .before .before .before .before .if2 .left) _ _ (sym (c .before .before .before .number-at .ensures) ∙ ap readOf (c .before .number .given .1)))
+returns-4 c = sym (count-refused (2 ^ (c .before .before .before .before .before .before .before .args .bits)) (c .before .before .before .before .before .before .before .args .highest) (c .before .before .before .before .before .before .before .args .k) (c .before .before .before .before .before .before .before .args .at) (spotOf (c .before .before .before .before .before .before .before .args .spot)) (c .before .before .before .before .before .before .before .args .leaves) (found (c .before .before .before .before .before .before .before .args .level) (c .before .before .before .before .before .before .before .args .next)) (c .before .before .before .before .before .before .before .args .bytes .now) (c .before .before .before .before .before .before .before .args .before) (c .before .before .before .before .before .if1 .left) (c .before .before .before .before .if2 .left) _ _ (sym (c .before .before .before .number-at .ensures) ∙ ap foundOf (c .before .number .given .1)))
 
 pub after-level-spec : {M : Type 1} → statement M
 after-level-spec =
