@@ -44,9 +44,9 @@ int main(void)
         z[i] = c.z;
         kind[i] = c.kind;
     }
-    print_number("its children are a family", gw_prism_family(level, 8, x, 8, y, 8, z, 8, kind, 8));
+    print_number("its children are a family", gw_prism_family(x, 8, y, 8, z, 8, level, 8, kind, 8));
     kind[5] = 2;
-    print_number("with one damaged", gw_prism_family(level, 8, x, 8, y, 8, z, 8, kind, 8));
+    print_number("with one damaged", gw_prism_family(x, 8, y, 8, z, 8, level, 8, kind, 8));
     /* A corner of the element in a root in space: 50 50 20. */
     gw_root root = {{{0, 0, 0}, {100, 0, 0}, {100, 100, 0}, {0, 0, 40}, {100, 0, 40}, {100, 100, 40}}};
     gw_point_result point = gw_corner_point(1, 6, 1, root);

@@ -12,7 +12,7 @@ extern "C" {
     pub fn gw_line_last_descendant(e: Line, level: u8) -> Answer<Line>;
     pub fn gw_line_neighbour(e: Line, face: u8) -> Answer<Line>;
     pub fn gw_line_compare(e: Line, f: Line) -> Answer<i32>;
-    pub fn gw_line_family(level: *const u8, level_length: usize, x: *const u32, x_length: usize) -> Answer<u64>;
+    pub fn gw_line_family(x: *const u32, x_length: usize, level: *const u8, level_length: usize) -> Answer<u64>;
 
     pub fn gw_triangle_at(level: u8, position: u64) -> Answer<Triangle>;
     pub fn gw_triangle_position(e: Triangle) -> Answer<u64>;
@@ -24,12 +24,12 @@ extern "C" {
     pub fn gw_triangle_neighbour(e: Triangle, face: u8) -> Answer<Triangle>;
     pub fn gw_triangle_compare(e: Triangle, f: Triangle) -> Answer<i32>;
     pub fn gw_triangle_family(
-        level: *const u8,
-        level_length: usize,
         x: *const u32,
         x_length: usize,
         y: *const u32,
         y_length: usize,
+        level: *const u8,
+        level_length: usize,
         kind: *const u8,
         kind_length: usize,
     ) -> Answer<u64>;
@@ -44,14 +44,14 @@ extern "C" {
     pub fn gw_prism_neighbour(e: Prism, face: u8) -> Answer<Prism>;
     pub fn gw_prism_compare(e: Prism, f: Prism) -> Answer<i32>;
     pub fn gw_prism_family(
-        level: *const u8,
-        level_length: usize,
         x: *const u32,
         x_length: usize,
         y: *const u32,
         y_length: usize,
         z: *const u32,
         z_length: usize,
+        level: *const u8,
+        level_length: usize,
         kind: *const u8,
         kind_length: usize,
     ) -> Answer<u64>;

@@ -172,8 +172,8 @@ calls!(
 impl Line {
     /// Whether the lines in the columns are the two children of one parent, in order. Any other count, or none, is no.
     /// Refuses: 11 columns of unequal length; then each line in turn, place = its index.
-    pub fn family(level: &[u8], x: &[u32]) -> Result<bool, Refusal> {
-        let answer = unsafe { ffi::gw_line_family(level.as_ptr(), level.len(), x.as_ptr(), x.len()) };
+    pub fn family(x: &[u32], level: &[u8]) -> Result<bool, Refusal> {
+        let answer = unsafe { ffi::gw_line_family(x.as_ptr(), x.len(), level.as_ptr(), level.len()) };
         answer.result().map(|yes| yes == 1)
     }
 }
@@ -181,15 +181,15 @@ impl Line {
 impl Triangle {
     /// Whether the triangles in the columns are the four children of one parent, in order. Any other count, or none,
     /// is no. Refuses: 11 columns of unequal length; then each triangle in turn, place = its index.
-    pub fn family(level: &[u8], x: &[u32], y: &[u32], kind: &[u8]) -> Result<bool, Refusal> {
+    pub fn family(x: &[u32], y: &[u32], level: &[u8], kind: &[u8]) -> Result<bool, Refusal> {
         let answer = unsafe {
             ffi::gw_triangle_family(
-                level.as_ptr(),
-                level.len(),
                 x.as_ptr(),
                 x.len(),
                 y.as_ptr(),
                 y.len(),
+                level.as_ptr(),
+                level.len(),
                 kind.as_ptr(),
                 kind.len(),
             )
@@ -201,17 +201,17 @@ impl Triangle {
 impl Prism {
     /// Whether the prisms in the columns are the eight children of one parent, in order. Any other count, or none,
     /// is no. Refuses: 11 columns of unequal length; then each prism in turn, place = its index.
-    pub fn family(level: &[u8], x: &[u32], y: &[u32], z: &[u32], kind: &[u8]) -> Result<bool, Refusal> {
+    pub fn family(x: &[u32], y: &[u32], z: &[u32], level: &[u8], kind: &[u8]) -> Result<bool, Refusal> {
         let answer = unsafe {
             ffi::gw_prism_family(
-                level.as_ptr(),
-                level.len(),
                 x.as_ptr(),
                 x.len(),
                 y.as_ptr(),
                 y.len(),
                 z.as_ptr(),
                 z.len(),
+                level.as_ptr(),
+                level.len(),
                 kind.as_ptr(),
                 kind.len(),
             )

@@ -10,9 +10,8 @@ use native.Mathlib.Omega.{arith}
 use lib.Dec.{leb}
 use lib.ListN.{length}
 use borrow.Author.Tests.{le-leb, leb-true, eq-eqb}
-use Rattle.leaves.specs.Leaves.{Leaf}
-use Rattle.leaves.specs.Laws.{nth}
-use Rattle.balance.specs.Balance.{near, balancedAfter, balanced, Near, ExactBalance}
+use Rattle.leaves.specs.Leaves.{Leaf, nth}
+use Rattle.balance.specs.Balance.{near, balancedAfter, isBalanced, Near, ExactBalance}
 use Rattle.balance.proofs.Pairs.{near-levels, near-roots}
 
 -- ---- two leaves
@@ -49,7 +48,7 @@ after-complete u (v ∷ vs) f =
     (near-complete u v (f 0 (omega arith)), after-complete v vs (λ i inside. f (suc i) (omega arith)))
 
 pub exact : ExactBalance
-unfolding balanced
+unfolding isBalanced
 exact [] = ((λ h i inside same. absurd (omega arith)), (λ f. refl))
 exact (u ∷ vs) = (
   (λ h i. subst (Next (u ∷ vs) i) (sym (add-one i)) (after-sound u vs h i)),

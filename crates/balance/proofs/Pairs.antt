@@ -10,7 +10,7 @@ use borrow.Author.Tests.{ne-eqb}
 use Rattle.paper.specs.Outcome.{rows}
 use Rattle.paper.proofs.Scan.{rows-next, rows-done}
 use Rattle.leaves.specs.Leaves.{Leaf}
-use Rattle.balance.specs.Balance.{near, balancedAfter, balanced}
+use Rattle.balance.specs.Balance.{near, balancedAfter, isBalanced}
 
 -- ---- two leaves
 abbrev pub nearLevels : Leaf → Leaf → Bool
@@ -28,9 +28,9 @@ abbrev pub balancedFrom : (ℕ → Leaf) → ℕ → ℕ → Bool
 balancedFrom entry m i = balancedAfter (entry (i - 1)) (rows entry i (m - i))
 
 module _ (entry : ℕ → Leaf) (m : ℕ) where
-  pub pairs-start : 0 < m → balanced (rows entry 0 m) ≡ balancedFrom entry m 1
-  unfolding balanced
-  pairs-start some = ap (λ (k : ℕ). balanced (rows entry 0 k)) (sym (sub-zero m)) ∙ ap balanced (rows-next entry m 0 some)
+  pub pairs-start : 0 < m → isBalanced (rows entry 0 m) ≡ balancedFrom entry m 1
+  unfolding isBalanced
+  pairs-start some = ap (λ (k : ℕ). isBalanced (rows entry 0 k)) (sym (sub-zero m)) ∙ ap isBalanced (rows-next entry m 0 some)
 
   module _ (i : ℕ) where
     pub pairs-done : m ≤ i → balancedFrom entry m i ≡ true

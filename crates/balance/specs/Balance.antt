@@ -1,8 +1,8 @@
 -- Document 01, "Leaf lists": "Balanced: any two leaves that follow one another in one root differ by at most one level." Definitions only.
 --
 --   near u v       the leaves u and v, if of one root, differ by at most one level
---   balanced vs    so do any two of vs that follow one another; balancedAfter u vs: and u and the first of vs
---   isBalanced     the call: the tests of a list call, then yes or no
+--   isBalanced vs  so do any two of vs that follow one another; balancedAfter u vs: and u and the first of vs
+--   balanced       the call: the tests of a list call, then yes or no
 --   Balanced vs    the paper's sentence as a statement, Near u v for two leaves
 --   ExactBalance          yes is exactly that
 --
@@ -15,9 +15,8 @@ use Prim.Native.Nat.{ℕ, _+_, _≤_, _<_}
 use lib.Dec.{leb, eqb}
 use lib.ListN.{length}
 use Rattle.paper.specs.Outcome.{Outcome, accepted}
-use Rattle.leaves.specs.Leaves.{Leaf, leaves}
+use Rattle.leaves.specs.Leaves.{Leaf, nth, Columns, leaves}
 use Rattle.leaves.specs.Calls.{listed}
-use Rattle.leaves.specs.Laws.{nth}
 
 abbrev pub near : Leaf → Leaf → Bool
 near u v = not (eqb (u .root) (v .root)) || (leb (u .level) (v .level + 1) && leb (v .level) (u .level + 1))
@@ -27,13 +26,12 @@ unfoldable pub balancedAfter : Leaf → List Leaf → Bool
 balancedAfter u [] = true
 balancedAfter u (v ∷ vs) = near u v && balancedAfter v vs
 
-unfoldable pub balanced : List Leaf → Bool
-balanced [] = true
-balanced (u ∷ vs) = balancedAfter u vs
+unfoldable pub isBalanced : List Leaf → Bool
+isBalanced [] = true
+isBalanced (u ∷ vs) = balancedAfter u vs
 
-abbrev pub isBalanced : ℕ → ℕ → ℕ → List ℕ → List ℕ → List ℕ → Outcome Bool
-isBalanced n L K roots levels positions =
-    listed n L K true true roots levels positions (accepted (balanced (leaves roots levels positions)))
+abbrev pub balanced : ℕ → ℕ → ℕ → Columns → Outcome Bool
+balanced n L K cs = listed n L K true true cs (accepted (isBalanced (leaves cs)))
 
 pub record Near (u v : Leaf) : Type 0 where
   pub not-far-below : u .level ≤ v .level + 1
@@ -43,4 +41,4 @@ abbrev pub Balanced : List Leaf → Type 0
 Balanced vs = (i : ℕ) → i + 1 < length vs → nth vs i .root ≡ nth vs (i + 1) .root → Near (nth vs i) (nth vs (i + 1))
 
 abbrev pub ExactBalance : Type 0
-ExactBalance = (vs : List Leaf) → balanced vs ≡ true ↔ Balanced vs
+ExactBalance = (vs : List Leaf) → isBalanced vs ≡ true ↔ Balanced vs

@@ -8,12 +8,14 @@ ghost use Prim.Native.Nat.{ℕ, _+_, _<_};
 ghost use lib.Dec.{leb};
 ghost use lib.ListN.{length};
 ghost use Rattle.paper.specs.Readings.{truthOf};
-ghost use Rattle.leaves.specs.Leaves.{leaves};
-ghost use Rattle.balance.specs.Balance.{balanced, isBalanced};
+ghost use Rattle.tree.specs.Anchors.{HIGHEST};
+ghost use Rattle.leaves.specs.Leaves.{CHILDREN, columns, leaves};
+ghost use Rattle.balance.specs.Balance.{isBalanced, balanced};
 
 // Whether any two leaves that follow one another in one root differ by at most one level. Refused: 17, 11, then 1, 5, 12 at each leaf.
 pub fn balanced(k: u16, roots: &[u16], levels: &[u8], positions: &[u64]) -> TruthAnswer
-    ensures { λ r. ⌜ truthOf r ≡ isBalanced 8 21 k (now (roots .entry)) (now (levels .entry)) (now (positions .entry)) ⌝ }
+    ensures { λ r. ⌜ truthOf r ≡ balanced CHILDREN HIGHEST k
+        (columns (now (roots .entry)) (now (levels .entry)) (now (positions .entry))) ⌝ }
 {
     match leaves::check_list(k, roots, levels, positions) {
         PassAnswer::Passed => TruthAnswer::Is(all_near(roots, levels)),
@@ -25,7 +27,7 @@ pub fn balanced(k: u16, roots: &[u16], levels: &[u8], positions: &[u64]) -> Trut
 // go many at a time.
 fn all_near(roots: &[u16], levels: &[u8]) -> bool
     requires { ⌜ (0 < length (now roots)) × (length (now roots) ≡ length (now levels)) ⌝ }
-    ensures { λ r. ⌜ ((positions : List ℕ) → r ≡ balanced (leaves (now (roots .entry)) (now (levels .entry)) positions)) ⌝ }
+    ensures { λ r. ⌜ ((positions : List ℕ) → r ≡ isBalanced (leaves (columns (now (roots .entry)) (now (levels .entry)) positions))) ⌝ }
 {
     let mut all = true;
     let mut i = 1;

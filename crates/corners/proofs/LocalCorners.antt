@@ -34,14 +34,14 @@ pub room : (e : Prism) → Sound prism e → Room e (side 21 (e .level))
 unfolding prismTo
 room e sound =
     let known = grids 21 e sound in
-    let plan = known .0 in
+    let below = known .0 in
     record {
-      two-types = plan .typed;
+      two-types = below .typed;
       below = scaled-up (side 21 (e .level)) (e .x / side 21 (e .level)) (e .y / side 21 (e .level)) (e .kind) (e .x) (e .y)
-          (grid-units 21 (e .level) (e .x) (plan .grid-x)) (grid-units 21 (e .level) (e .y) (plan .grid-y))
-          (known-units 21 (plan e) plan);
-      room-x = end-inside 21 (e .level) (e .x) (plan .shallow) (plan .grid-x);
-      room-z = end-inside 21 (e .level) (e .z) (plan .shallow) (known .1);
+          (grid-units 21 (e .level) (e .x) (below .grid-x)) (grid-units 21 (e .level) (e .y) (below .grid-y))
+          (known-units 21 (plan e) below);
+      room-x = end-inside 21 (e .level) (e .x) (below .shallow) (below .grid-x);
+      room-z = end-inside 21 (e .level) (e .z) (below .shallow) (known .1);
     }
 
 -- the same with the side that the code found

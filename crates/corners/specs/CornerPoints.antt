@@ -21,8 +21,9 @@ use lib.Dec.{leb, ltb}
 use lib.ListN.{getD}
 use lib.Ieee.{Float, binary64, round}
 use Rattle.paper.specs.Outcome.{Outcome, accepted, refused, refuse-when}
+use Rattle.tree.specs.Anchors.{HIGHEST, EDGE}
 use Rattle.tree.specs.Words.{elementAt}
-use Rattle.prism.specs.Elements.{prism}
+use Rattle.prism.specs.Elements.{CHILDREN, CORNERS, prism}
 use Rattle.prism.specs.Points as prisms
 use Rattle.corners.specs.declared.Corner.{Corner}
 use Rattle.corners.specs.declared.Root.{Root}
@@ -50,10 +51,10 @@ rootWithin r =
     && (cornerWithin (r .v2) && (cornerWithin (r .v3) && (cornerWithin (r .v4) && cornerWithin (r .v5)))))
 
 abbrev pub t : (ℕ → ℤ) → ℕ → ℕ → ℤ
-t v Z j = pos (2 ^ 21) *ℤ v j +ℤ (v (j + 3) -ℤ v j) *ℤ pos Z
+t v Z j = pos EDGE *ℤ v j +ℤ (v (j + 3) -ℤ v j) *ℤ pos Z
 
 abbrev pub q : (ℕ → ℤ) → ℕ → ℕ → ℕ → ℤ
-q v X Y Z = pos (2 ^ 21) *ℤ t v Z 0 +ℤ (t v Z 1 -ℤ t v Z 0) *ℤ pos X +ℤ (t v Z 2 -ℤ t v Z 1) *ℤ pos Y
+q v X Y Z = pos EDGE *ℤ t v Z 0 +ℤ (t v Z 1 -ℤ t v Z 0) *ℤ pos X +ℤ (t v Z 2 -ℤ t v Z 1) *ℤ pos Y
 
 abbrev pub negative : ℤ → Bool
 negative (pos n) = false
@@ -76,11 +77,11 @@ pointAt r c =
 
 unfoldable pub cornerPoint : ℕ → ℕ → ℕ → Root → Outcome Point
 cornerPoint l p i r =
-    refuse-when (ltb 21 l) 1
-    (refuse-when (leb (8 ^ l) p) 5
-    (refuse-when (leb 6 i) 8
+    refuse-when (ltb HIGHEST l) 1
+    (refuse-when (leb (CHILDREN ^ l) p) 5
+    (refuse-when (leb CORNERS i) 8
     (refuse-when (not (rootWithin r)) 24
-    (accepted (pointAt r (prisms.corner 21 (elementAt prism l p) i))))))
+    (accepted (pointAt r (prisms.corner HIGHEST (elementAt prism l p) i))))))
 
 abbrev pub pointOf : PointAnswer → Outcome Point
 pointOf (Is p) = accepted p

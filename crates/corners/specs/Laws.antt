@@ -20,10 +20,11 @@ use lib.IntN.{ℤ, natAbs}
 use lib.Ieee.{Float, binary64, ofInt, fits}
 use lib.Ieee.Exact.{HasValue}
 use Rattle.paper.specs.Outcome.{accepted}
+use Rattle.tree.specs.Anchors.{HIGHEST, EDGE}
 use Rattle.tree.specs.Laws.{Sound}
 use Rattle.tree.specs.Words.{elementAt}
 use Rattle.prism.specs.declared.Prism.{Prism}
-use Rattle.prism.specs.Elements.{prism}
+use Rattle.prism.specs.Elements.{CHILDREN, CORNERS, prism}
 use Rattle.prism.specs.Points as prisms
 use Rattle.corners.specs.declared.Corner.{Corner}
 use Rattle.corners.specs.declared.Root.{Root}
@@ -41,8 +42,8 @@ pub record Exact : Type 0 where
 
 pub record InsideRoot (c : prisms.Corner) : Type 0 where
   pub ordered : c .plan .y ≤ c .plan .x
-  pub across : c .plan .x ≤ 2 ^ 21
-  pub upwards : c .height ≤ 2 ^ 21
+  pub across : c .plan .x ≤ EDGE
+  pub upwards : c .height ≤ EDGE
 
 -- Q of one coordinate at a local corner
 abbrev pub qAt : (Corner → ℤ) → Root → prisms.Corner → ℤ
@@ -54,7 +55,7 @@ pub record Small (r : Root) (c : prisms.Corner) : Type 0 where
   pub in-z : natAbs (qAt (λ v. v .z) r c) ≤ 2 ^ 51
 
 pub record Bounded : Type 0 where
-  pub inside : (e : Prism) (i : ℕ) → Sound prism e → i < 6 → InsideRoot (prisms.corner 21 e i)
+  pub inside : (e : Prism) (i : ℕ) → Sound prism e → i < CORNERS → InsideRoot (prisms.corner HIGHEST e i)
   pub small : (r : Root) (c : prisms.Corner) → rootWithin r ≡ true → InsideRoot c → Small r c
 
 -- each coordinate of the point a has exactly the value Q / 2^42 at the local corner c
@@ -68,16 +69,16 @@ abbrev pub pointed : Corner → Point
 pointed v = record { x = ofInt binary64 (v .x); y = ofInt binary64 (v .y); z = ofInt binary64 (v .z) }
 
 pub record Meaning : Type 0 where
-  pub root's-own : (r : Root) (i : ℕ) → rootWithin r ≡ true → i < 6 → cornerPoint 0 0 i r ≡ accepted (pointed (corner r i))
-  pub shared : (l p i m s j : ℕ) (r : Root) → l ≤ 21 → p < 8 ^ l → i < 6 → m ≤ 21 → s < 8 ^ m → j < 6
-      → prisms.corner 21 (elementAt prism l p) i ≡ prisms.corner 21 (elementAt prism m s) j
+  pub root's-own : (r : Root) (i : ℕ) → rootWithin r ≡ true → i < CORNERS → cornerPoint 0 0 i r ≡ accepted (pointed (corner r i))
+  pub shared : (l p i m s j : ℕ) (r : Root) → l ≤ HIGHEST → p < CHILDREN ^ l → i < CORNERS → m ≤ HIGHEST → s < CHILDREN ^ m → j < CORNERS
+      → prisms.corner HIGHEST (elementAt prism l p) i ≡ prisms.corner HIGHEST (elementAt prism m s) j
       → cornerPoint l p i r ≡ cornerPoint m s j r
 
 pub record Promised : Type 0 where
-  pub accepts : (l p i : ℕ) (r : Root) → l ≤ 21 → p < 8 ^ l → i < 6 → rootWithin r ≡ true
-      → cornerPoint l p i r ≡ accepted (pointAt r (prisms.corner 21 (elementAt prism l p) i))
-  pub answered : (l p i : ℕ) (r : Root) (a : Point) → l ≤ 21 → p < 8 ^ l → i < 6 → rootWithin r ≡ true
-      → cornerPoint l p i r ≡ accepted a ↔ AsDue r (prisms.corner 21 (elementAt prism l p) i) a
+  pub accepts : (l p i : ℕ) (r : Root) → l ≤ HIGHEST → p < CHILDREN ^ l → i < CORNERS → rootWithin r ≡ true
+      → cornerPoint l p i r ≡ accepted (pointAt r (prisms.corner HIGHEST (elementAt prism l p) i))
+  pub answered : (l p i : ℕ) (r : Root) (a : Point) → l ≤ HIGHEST → p < CHILDREN ^ l → i < CORNERS → rootWithin r ≡ true
+      → cornerPoint l p i r ≡ accepted a ↔ AsDue r (prisms.corner HIGHEST (elementAt prism l p) i) a
   pub exact : Exact
   pub bounded : Bounded
   pub meaning : Meaning

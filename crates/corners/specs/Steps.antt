@@ -13,6 +13,7 @@ use mathlib.Core.List.{[], _∷_}
 use Prim.Native.Nat.{ℕ, _+_, _*_, _/_, _%_, _^_, _≤_}
 use lib.IntN.{ℤ, pos, natAbs, _+ℤ_, _-ℤ_, _*ℤ_}
 use lib.ListN.{getD}
+use Rattle.tree.specs.Anchors.{EDGE}
 use Rattle.triangle.specs.Points.{point, cornersBy}
 use Rattle.prism.specs.Points.{lifted}
 use Rattle.prism.specs.Points as prisms
@@ -32,7 +33,7 @@ pub record Near (a : Axis) : Type 0 where
   pub near5 : natAbs (a .v5) ≤ 512
 
 abbrev pub mix : ℤ → ℤ → ℕ → ℤ
-mix low high Z = pos (2 ^ 21) *ℤ low +ℤ (high -ℤ low) *ℤ pos Z
+mix low high Z = pos EDGE *ℤ low +ℤ (high -ℤ low) *ℤ pos Z
 
 pub record Heights (t0 t1 t2 : ℤ) : Type 0 where
   pub tall0 : natAbs t0 ≤ 2 ^ 30

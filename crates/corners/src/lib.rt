@@ -1,6 +1,7 @@
 // Corner points: where a corner of an element lies in space, exactly. `specs/CornerPoints.antt` says what the call answers.
 use prism::Prism;
 use prism::PrismAnswer;
+use tree::HIGHEST;
 ghost use mathlib.Core.Path.{_≡_};
 ghost use Rattle.corners.specs.CornerPoints.{pointOf, cornerPoint};
 
@@ -14,7 +15,7 @@ pub struct Corner {
     pub z: i64,
 }
 
-// A root: v0 to v2 belong to z = 0, v3 to v5 to z = 2^21, each over the one three before it. In space they may lie anywhere.
+// A root: v0 to v2 belong to z = 0, v3 to v5 to z = EDGE, each over the one three before it. In space they may lie anywhere.
 #[repr(C)]
 pub struct Root {
     pub v0: Corner,
@@ -42,7 +43,7 @@ pub enum PointAnswer {
 pub fn corner_point(level: u8, position: u64, corner: u8, root: Root) -> PointAnswer
     ensures { λ r. ⌜ pointOf r ≡ cornerPoint level position corner root ⌝ }
 {
-    if 21 < level {
+    if HIGHEST < level {
         return PointAnswer::Refused(1, 0);
     }
     if 1u64 << (3 * level) <= position {

@@ -3,12 +3,15 @@
 use crate::Point;
 use crate::Root;
 use prism::Prism;
+use triangle::Triangle;
 ghost use mathlib.Core.Path.{_≡_};
 ghost use mathlib.Core.Bool.{true};
 ghost use Prim.Native.Nat.{_^_, _<_, _≤_};
 ghost use lib.IntN.{natAbs};
+ghost use Rattle.tree.specs.Anchors.{HIGHEST, EDGE};
 ghost use Rattle.tree.specs.Laws.{Sound};
-ghost use Rattle.prism.specs.Elements.{prism};
+ghost use Rattle.triangle.specs.Elements as triangles;
+ghost use Rattle.prism.specs.Elements.{CORNERS, prism};
 ghost use Rattle.prism.specs.Points as prisms;
 ghost use Rattle.corners.specs.CornerPoints.{within, allWithin, rootWithin, q, coordinate, pointAt};
 ghost use Rattle.corners.specs.Laws.{InsideRoot};
@@ -121,7 +124,7 @@ impl Root {
 const CORNER: [[u8; 3]; 2] = [[0, 1, 3], [0, 2, 3]];
 
 fn sides(kind: u8, number: u8) -> u8
-    requires { ⌜ (kind < 2) × (number < 3) ⌝ }
+    requires { ⌜ (kind < 2) × (number < triangles.CORNERS) ⌝ }
     ensures { λ r. ⌜ CornerRow kind number r ⌝ }
 {
     let t = kind as usize;
@@ -131,31 +134,34 @@ fn sides(kind: u8, number: u8) -> u8
 
 // A corner of an element: that of its triangle, 0 to 2 at z, 3 to 5 at z + h.
 pub(crate) fn local_of(e: Prism, corner: u8) -> Local
-    requires { ⌜ (Sound prism e) × (corner < 6) ⌝ }
-    ensures { λ r. ⌜ r ≡ localOf (prisms.corner 21 e corner) ⌝ }
+    requires { ⌜ (Sound prism e) × (corner < CORNERS) ⌝ }
+    ensures { λ r. ⌜ r ≡ localOf (prisms.corner HIGHEST e corner) ⌝ }
 {
     let h = tree::side(e.level);
-    let s = sides(e.kind, corner % 3) as u32;
+    let s = sides(e.kind, corner % Triangle::CORNERS) as u32;
     let x = e.x + s % 2 * h;
     let y = e.y + s / 2 * h;
-    let z = e.z + (corner / 3) as u32 * h;
+    let z = e.z + (corner / Triangle::CORNERS) as u32 * h;
     Local { x, y, z }
 }
 
+// The edge, among signed numbers.
+const SCALE: i64 = tree::EDGE as i64;
+
 // Tj: one coordinate at a height, on an edge that goes up from one corner to another.
 fn raised(low: i64, high: i64, z: u32) -> i64
-    requires { ⌜ (natAbs low ≤ 512) × ((natAbs high ≤ 512) × (z ≤ 2 ^ 21)) ⌝ }
+    requires { ⌜ (natAbs low ≤ 512) × ((natAbs high ≤ 512) × (z ≤ EDGE)) ⌝ }
     ensures { λ r. ⌜ r ≡ mix low high z ⌝ }
 {
-    2097152 * low + (high - low) * z as i64
+    SCALE * low + (high - low) * z as i64
 }
 
 // Q, from the three at the height.
 fn blended(t0: i64, t1: i64, t2: i64, x: u32, y: u32) -> i64
-    requires { ⌜ Heights t0 t1 t2 × ((y ≤ x) × (x ≤ 2 ^ 21)) ⌝ }
+    requires { ⌜ Heights t0 t1 t2 × ((y ≤ x) × (x ≤ EDGE)) ⌝ }
     ensures { λ r. ⌜ r ≡ blend t0 t1 t2 x y ⌝ }
 {
-    2097152 * t0 + (t1 - t0) * x as i64 + (t2 - t1) * y as i64
+    SCALE * t0 + (t1 - t0) * x as i64 + (t2 - t1) * y as i64
 }
 
 fn scaled(a: Axis, p: Local) -> i64

@@ -1,7 +1,7 @@
 -- Closed cases of the index, computed: they hold what `Ranked` leaves open, that Y stands before X and X before the types. Assumes nothing.
 use mathlib.Core.Path.{_≡_, refl}
 use Prim.Native.Nat.{_+_, _*_, _^_}
-use Rattle.triangle.specs.Rows.{parentKind}
+use Rattle.rows.specs.Rows.{parentKind}
 use Rattle.triangle.specs.Elements.{triangleTo}
 use Rattle.prism.specs.Elements.{prismTo}
 use Rattle.index.specs.Index.{triangleIndex, prismIndex, climbed, types, group, overlaid}

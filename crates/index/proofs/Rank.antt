@@ -8,9 +8,9 @@ use native.Mathlib.Decide.{decLt}
 use native.Mathlib.Omega.{arith}
 use Rattle.line.specs.Elements.{lineTo}
 use Rattle.triangle.specs.declared.Triangle.{Triangle}
-use Rattle.triangle.specs.Rows.{childRow}
+use Rattle.rows.specs.Rows.{childRow}
 use Rattle.triangle.specs.Elements.{triangleTo}
-use Rattle.triangle.proofs.Tables.{each-child, each-face, childRow-small}
+use Rattle.rows.proofs.Tables.{each-child, each-face, childRow-small}
 use Rattle.triangle.proofs.Laws.{Known, known}
 use Rattle.prism.specs.Elements.{prismTo, plan}
 use Rattle.prism.proofs.Laws.{grids}

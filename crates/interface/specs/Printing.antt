@@ -9,8 +9,8 @@ use Prim.Native.Nat.{ℕ}
 use lib.ListN.{length}
 use Rattle.paper.specs.Memory.{lent}
 use Rattle.orders.specs.Calls.{output, answered}
-use Rattle.interface.specs.declared.NumberResult.{NumberResult}
-use Rattle.interface.specs.Results.{numberResult}
+use Rattle.results.specs.declared.NumberResult.{NumberResult}
+use Rattle.results.specs.Results.{numberResult}
 
 pub record PrintedResult (r : NumberResult) (input buffer buffer′ : List ℕ) : Type 0 where
   pub result : r ≡ numberResult (answered input (length buffer))

@@ -1,8 +1,7 @@
 // The calls of the grid file.
-use crate::GridResult;
-use crate::NumberResult;
-use crate::results;
-ghost use Rattle.interface.specs.Results.{WriteResult, ReadResult};
+use results::GridResult;
+use results::NumberResult;
+ghost use Rattle.results.specs.Results.{WriteResult, ReadResult};
 
 // The file of a list of k roots, at the front of the bytes.
 #[no_mangle]

@@ -1,15 +1,13 @@
 // The calls on lines.
-use crate::CompareResult;
-use crate::LineResult;
-use crate::NumberResult;
-use crate::results;
+use results::CompareResult;
+use results::LineResult;
+use results::NumberResult;
 use line::Line;
 ghost use mathlib.Core.Path.{_≡_};
-ghost use lib.Dec.{eqb};
-ghost use lib.ListN.{length};
 ghost use Rattle.tree.specs.Calls;
-ghost use Rattle.line.specs.Elements.{line, elements};
-ghost use Rattle.interface.specs.Results.{lineResult, numberResult, truthResult, compareResult};
+ghost use Rattle.line.specs.Elements.{line};
+ghost use Rattle.line.specs.Columns.{columns, family};
+ghost use Rattle.results.specs.Results.{lineResult, numberResult, truthResult, compareResult};
 
 #[no_mangle]
 pub extern "C" fn gw_line_at(level: u8, position: u64) -> LineResult
@@ -75,8 +73,8 @@ pub extern "C" fn gw_line_compare(e: Line, f: Line) -> CompareResult
 }
 
 #[no_mangle]
-pub extern "C" fn gw_line_family(levels: &[u8], xs: &[u32]) -> NumberResult
-    ensures { λ r. ⌜ r ≡ truthResult (Calls.family line (eqb (length (now (levels .entry))) (length (now (xs .entry)))) (elements (now (levels .entry)) (now (xs .entry)))) ⌝ }
+pub extern "C" fn gw_line_family(xs: &[u32], levels: &[u8]) -> NumberResult
+    ensures { λ r. ⌜ r ≡ truthResult (family (columns (now (xs .entry)) (now (levels .entry)))) ⌝ }
 {
-    results::of_truth(Line::family(levels, xs))
+    results::of_truth(Line::family(xs, levels))
 }

@@ -1,16 +1,17 @@
 // The calls on leaf lists.
-use crate::NumberResult;
-use crate::results;
+use results::NumberResult;
 ghost use mathlib.Core.Path.{_≡_};
-ghost use mathlib.Core.Bool.{true};
-ghost use Rattle.paper.specs.Outcome.{passed};
-ghost use Rattle.leaves.specs.Calls.{listed};
-ghost use Rattle.balance.specs.Balance.{isBalanced};
-ghost use Rattle.interface.specs.Results.{passResult, truthResult, UniformResult, AdaptResult, SharesResult};
+ghost use Rattle.tree.specs.Anchors.{HIGHEST};
+ghost use Rattle.leaves.specs.Leaves.{CHILDREN, columns};
+ghost use Rattle.leaves.specs.Calls.{checkList};
+ghost use Rattle.balance.specs.Balance.{balanced};
+ghost use Rattle.results.specs.Results.{passResult, truthResult};
+ghost use Rattle.interface.specs.Calls.{UniformResult, AdaptResult, SharesResult};
 
 #[no_mangle]
 pub extern "C" fn gw_list_check(k: u16, roots: &[u16], levels: &[u8], positions: &[u64]) -> u64
-    ensures { λ r. ⌜ r ≡ passResult (listed 8 21 k true true (now (roots .entry)) (now (levels .entry)) (now (positions .entry)) passed) ⌝ }
+    ensures { λ r. ⌜ r ≡ passResult (checkList CHILDREN HIGHEST k
+        (columns (now (roots .entry)) (now (levels .entry)) (now (positions .entry)))) ⌝ }
 {
     results::of_pass(leaves::check_list(k, roots, levels, positions))
 }
@@ -24,9 +25,11 @@ pub extern "C" fn gw_list_uniform(
     levels: &mut [u8],
     positions: &mut [u64],
 ) -> NumberResult
-    ensures { λ r. ⌜ UniformResult k level r (now (roots .entry)) (now (levels .entry)) (now (positions .entry)) (now (roots .exit)) (now (levels .exit)) (now (positions .exit)) ⌝ }
+    ensures { λ r. ⌜ UniformResult k level r
+        (columns (now (roots .entry)) (now (levels .entry)) (now (positions .entry)))
+        (columns (now (roots .exit)) (now (levels .exit)) (now (positions .exit))) ⌝ }
 {
-    results::of_number(leaves::uniform(k, level, roots, levels, positions))
+    results::of_number(columns::uniform(k, level, roots, levels, positions))
 }
 
 #[no_mangle]
@@ -36,7 +39,8 @@ pub extern "C" fn gw_list_balanced(
     levels: &[u8],
     positions: &[u64],
 ) -> NumberResult
-    ensures { λ r. ⌜ r ≡ truthResult (isBalanced 8 21 k (now (roots .entry)) (now (levels .entry)) (now (positions .entry))) ⌝ }
+    ensures { λ r. ⌜ r ≡ truthResult (balanced CHILDREN HIGHEST k
+        (columns (now (roots .entry)) (now (levels .entry)) (now (positions .entry)))) ⌝ }
 {
     results::of_truth(balance::balanced(k, roots, levels, positions))
 }
@@ -53,7 +57,9 @@ pub extern "C" fn gw_list_adapt(
     new_levels: &mut [u8],
     new_positions: &mut [u64],
 ) -> NumberResult
-    ensures { λ r. ⌜ AdaptResult k r (now (roots .entry)) (now (levels .entry)) (now (positions .entry)) (now (marks .entry)) (now («new_roots» .entry)) (now («new_levels» .entry)) (now («new_positions» .entry)) (now («new_roots» .exit)) (now («new_levels» .exit)) (now («new_positions» .exit)) ⌝ }
+    ensures { λ r. ⌜ AdaptResult k r (columns (now (roots .entry)) (now (levels .entry)) (now (positions .entry))) (now (marks .entry))
+        (columns (now («new_roots» .entry)) (now («new_levels» .entry)) (now («new_positions» .entry)))
+        (columns (now («new_roots» .exit)) (now («new_levels» .exit)) (now («new_positions» .exit))) ⌝ }
 {
     results::of_number(adaption::adapt(
         k,
@@ -78,7 +84,8 @@ pub extern "C" fn gw_list_shares(
     weights: &[u16],
     boundaries: &mut [u32],
 ) -> u64
-    ensures { λ r. ⌜ SharesResult k p r (now (roots .entry)) (now (levels .entry)) (now (positions .entry)) (now (weights .entry)) (now (boundaries .entry)) (now (boundaries .exit)) ⌝ }
+    ensures { λ r. ⌜ SharesResult k p r (columns (now (roots .entry)) (now (levels .entry)) (now (positions .entry)))
+        (now (weights .entry)) (now (boundaries .entry)) (now (boundaries .exit)) ⌝ }
 {
     results::of_pass(shares::shares(k, p, roots, levels, positions, weights, boundaries))
 }

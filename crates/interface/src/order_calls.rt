@@ -1,6 +1,5 @@
 // The order program's call.
-use crate::NumberResult;
-use crate::results;
+use results::NumberResult;
 ghost use Rattle.interface.specs.Printing.{PrintedResult};
 
 // What the order program prints on the input, at the front of the buffer. The value is how many bytes.

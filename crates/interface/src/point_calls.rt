@@ -1,10 +1,9 @@
 // The call on corner points.
-use crate::PointResult;
-use crate::results;
+use results::PointResult;
 use corners::Root;
 ghost use mathlib.Core.Path.{_≡_};
 ghost use Rattle.corners.specs.CornerPoints.{cornerPoint};
-ghost use Rattle.interface.specs.Results.{pointResult};
+ghost use Rattle.results.specs.Results.{pointResult};
 
 // The point of a corner of the element of a level at a position, in the root with these six corners.
 #[no_mangle]

@@ -1,13 +1,13 @@
 // The calls on prisms.
-use crate::CompareResult;
-use crate::NumberResult;
-use crate::PrismResult;
-use crate::results;
+use results::CompareResult;
+use results::NumberResult;
+use results::PrismResult;
 use prism::Prism;
 ghost use mathlib.Core.Path.{_≡_};
 ghost use Rattle.tree.specs.Calls;
-ghost use Rattle.prism.specs.Elements.{prism, equalColumns, elements};
-ghost use Rattle.interface.specs.Results.{prismResult, numberResult, truthResult, compareResult};
+ghost use Rattle.prism.specs.Elements.{prism};
+ghost use Rattle.prism.specs.Columns.{columns, family};
+ghost use Rattle.results.specs.Results.{prismResult, numberResult, truthResult, compareResult};
 
 #[no_mangle]
 pub extern "C" fn gw_prism_at(level: u8, position: u64) -> PrismResult
@@ -74,13 +74,13 @@ pub extern "C" fn gw_prism_compare(e: Prism, f: Prism) -> CompareResult
 
 #[no_mangle]
 pub extern "C" fn gw_prism_family(
-    levels: &[u8],
     xs: &[u32],
     ys: &[u32],
     zs: &[u32],
+    levels: &[u8],
     kinds: &[u8],
 ) -> NumberResult
-    ensures { λ r. ⌜ r ≡ truthResult (Calls.family prism (equalColumns (now (levels .entry)) (now (xs .entry)) (now (ys .entry)) (now (zs .entry)) (now (kinds .entry))) (elements (now (levels .entry)) (now (xs .entry)) (now (ys .entry)) (now (zs .entry)) (now (kinds .entry)))) ⌝ }
+    ensures { λ r. ⌜ r ≡ truthResult (family (columns (now (xs .entry)) (now (ys .entry)) (now (zs .entry)) (now (levels .entry)) (now (kinds .entry)))) ⌝ }
 {
-    results::of_truth(Prism::family(levels, xs, ys, zs, kinds))
+    results::of_truth(Prism::family(xs, ys, zs, levels, kinds))
 }

@@ -1,13 +1,13 @@
 // The calls on triangles.
-use crate::CompareResult;
-use crate::NumberResult;
-use crate::TriangleResult;
-use crate::results;
+use results::CompareResult;
+use results::NumberResult;
+use results::TriangleResult;
 use triangle::Triangle;
 ghost use mathlib.Core.Path.{_≡_};
 ghost use Rattle.tree.specs.Calls;
-ghost use Rattle.triangle.specs.Elements.{triangle, equalColumns, elements};
-ghost use Rattle.interface.specs.Results.{triangleResult, numberResult, truthResult, compareResult};
+ghost use Rattle.triangle.specs.Elements.{triangle};
+ghost use Rattle.triangle.specs.Columns.{columns, family};
+ghost use Rattle.results.specs.Results.{triangleResult, numberResult, truthResult, compareResult};
 
 #[no_mangle]
 pub extern "C" fn gw_triangle_at(level: u8, position: u64) -> TriangleResult
@@ -74,12 +74,12 @@ pub extern "C" fn gw_triangle_compare(e: Triangle, f: Triangle) -> CompareResult
 
 #[no_mangle]
 pub extern "C" fn gw_triangle_family(
-    levels: &[u8],
     xs: &[u32],
     ys: &[u32],
+    levels: &[u8],
     kinds: &[u8],
 ) -> NumberResult
-    ensures { λ r. ⌜ r ≡ truthResult (Calls.family triangle (equalColumns (now (levels .entry)) (now (xs .entry)) (now (ys .entry)) (now (kinds .entry))) (elements (now (levels .entry)) (now (xs .entry)) (now (ys .entry)) (now (kinds .entry)))) ⌝ }
+    ensures { λ r. ⌜ r ≡ truthResult (family (columns (now (xs .entry)) (now (ys .entry)) (now (levels .entry)) (now (kinds .entry)))) ⌝ }
 {
-    results::of_truth(Triangle::family(levels, xs, ys, kinds))
+    results::of_truth(Triangle::family(xs, ys, levels, kinds))
 }

@@ -11,8 +11,8 @@ use Rattle.tree.specs.Laws.{Sound, Lawful}
 use Rattle.tree.proofs.RoundTrip.{round-trips}
 use Rattle.tree.proofs.Descent.{positions}
 use Rattle.tree.specs.Words as words
-use Rattle.leaves.specs.Leaves.{Leaf, spotAt, Valid}
-use Rattle.leaves.specs.Laws.{nth, Holds, Once}
+use Rattle.leaves.specs.Leaves.{Leaf, nth, spotAt, Valid}
+use Rattle.leaves.specs.Laws.{Holds, Once}
 use Rattle.leaves.specs.Cells.{up, InLeaf, OneLeaf, CellsOnce, CellLaws}
 use Rattle.leaves.proofs.Cells.{once-each}
 use Rattle.leaves.proofs.Entries.{level-at, position-at}
@@ -94,8 +94,8 @@ module _ {E : Type 0} (S : Shape E) (W : Lawful S) where
       by o =
           record {
             which = o .which;
-            inside = o .inside;
-            holds = of-holds (nth vs (o .which)) r e sound smallest (level (o .which) (o .inside)) (position (o .which) (o .inside)) (o .holds);
+            below = o .below;
+            holds = of-holds (nth vs (o .which)) r e sound smallest (level (o .which) (o .below)) (position (o .which) (o .below)) (o .holds);
             only = λ j inside held. o .only j inside (holds-of (nth vs j) r e sound smallest (level j inside) (position j inside) held);
           }
 

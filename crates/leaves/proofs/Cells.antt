@@ -7,8 +7,8 @@ use native.Mathlib.Nat.{div-mul-le-self, lt-div-mul-add, div-eq-of-lt-le, mul-le
 use native.Mathlib.Decide.{decLt, ℕ-discrete}
 use native.Mathlib.Omega.{arith}
 use lib.ListN.{length}
-use Rattle.leaves.specs.Leaves.{Leaf, Spot, spotAt, span, begin, past, startOf, endOf, Covers, Valid}
-use Rattle.leaves.specs.Laws.{nth, Holds, Once, OnceEach}
+use Rattle.leaves.specs.Leaves.{Leaf, nth, Spot, spotAt, span, begin, past, startOf, endOf, Covers, Valid}
+use Rattle.leaves.specs.Laws.{Holds, Once, OnceEach}
 use Rattle.leaves.proofs.Span.{more-mul, quotient, power-pos, past-begin, past-le, end-last, end-within}
 
 module _ (n L : ℕ) where
@@ -50,14 +50,14 @@ module _ (n L : ℕ) where
   -- ---- a list with one leaf more
   once-head : (v : Leaf) (vs : List Leaf) (r q : ℕ) → Holds n L v r q → ((j : ℕ) → j < length vs → Holds n L (nth vs j) r q → ⊥)
       → Once n L (v ∷ vs) r q
-  once-head v vs r q h others = record { which = 0; inside = omega arith; holds = h; only = only }
+  once-head v vs r q h others = record { which = 0; below = omega arith; holds = h; only = only }
     where
       only : (j : ℕ) → j < suc (length vs) → Holds n L (nth (v ∷ vs) j) r q → j ≡ 0
       only zero inside held = refl
       only (suc j) inside held = absurd (others j (omega arith) held)
 
   once-tail : (v : Leaf) (vs : List Leaf) (r q : ℕ) → (Holds n L v r q → ⊥) → Once n L vs r q → Once n L (v ∷ vs) r q
-  once-tail v vs r q other o = record { which = suc (o .which); inside = omega (arith, o .inside); holds = o .holds; only = only }
+  once-tail v vs r q other o = record { which = suc (o .which); below = omega (arith, o .below); holds = o .holds; only = only }
     where
       only : (j : ℕ) → j < suc (length vs) → Holds n L (nth (v ∷ vs) j) r q → j ≡ suc (o .which)
       only zero inside held = absurd (other held)

@@ -5,8 +5,7 @@ use Prim.Native.Nat.{ℕ, zero, suc, _^_, _≤_, _<_}
 use native.Mathlib.Omega.{arith}
 use lib.ListN.{length, length-map}
 use Rattle.paper.specs.Outcome.{rows}
-use Rattle.leaves.specs.Leaves.{Leaf, leafAt, leaves, rootsOf, levelsOf, positionsOf, Spot, startOf, endOf, Covers, Valid}
-use Rattle.leaves.specs.Laws.{nth}
+use Rattle.leaves.specs.Leaves.{Leaf, nth, leafAt, leaves, columnsOf, Spot, startOf, endOf, Covers, Valid}
 
 module _ (n L K : ℕ) where
   pub level-at : (c : Spot) (vs : List Leaf) (j : ℕ) → Covers n L c vs K → j < length vs → nth vs j .level ≤ L
@@ -39,14 +38,14 @@ some-leaf n L K [] some valid = absurd (let none : 0 ≡ K = ap (λ (p : Spot). 
 some-leaf n L K (v ∷ vs) some valid = omega arith
 
 -- ---- the leaves of a list's own columns are the list
-columns-later : (v : Leaf) (us : List Leaf) (i k : ℕ) → rows (leafAt (rootsOf (v ∷ us)) (levelsOf (v ∷ us)) (positionsOf (v ∷ us))) (suc i) k
-    ≡ rows (leafAt (rootsOf us) (levelsOf us) (positionsOf us)) i k
+columns-later : (v : Leaf) (us : List Leaf) (i k : ℕ) → rows (leafAt (columnsOf (v ∷ us))) (suc i) k
+    ≡ rows (leafAt (columnsOf us)) i k
 columns-later v us i zero = refl
-columns-later v us i (suc k) = ap (λ (xs : List Leaf). leafAt (rootsOf us) (levelsOf us) (positionsOf us) i ∷ xs) (columns-later v us (suc i) k)
+columns-later v us i (suc k) = ap (λ (xs : List Leaf). leafAt (columnsOf us) i ∷ xs) (columns-later v us (suc i) k)
 
-columns-rows : (us : List Leaf) → rows (leafAt (rootsOf us) (levelsOf us) (positionsOf us)) 0 (length us) ≡ us
+columns-rows : (us : List Leaf) → rows (leafAt (columnsOf us)) 0 (length us) ≡ us
 columns-rows [] = refl
 columns-rows (v ∷ us) = ap (λ (xs : List Leaf). v ∷ xs) (columns-later v us 0 (length us) ∙ columns-rows us)
 
-pub leaves-of-columns : (vs : List Leaf) → leaves (rootsOf vs) (levelsOf vs) (positionsOf vs) ≡ vs
-leaves-of-columns vs = ap (rows (leafAt (rootsOf vs) (levelsOf vs) (positionsOf vs)) 0) (length-map vs (λ (v : Leaf). v .root)) ∙ columns-rows vs
+pub leaves-of-columns : (vs : List Leaf) → leaves (columnsOf vs) ≡ vs
+leaves-of-columns vs = ap (rows (leafAt (columnsOf vs)) 0) (length-map vs (λ (v : Leaf). v .root)) ∙ columns-rows vs

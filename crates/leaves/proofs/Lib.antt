@@ -7,9 +7,8 @@ pub mod Cells
 pub mod Promised
 pub mod Shift
 pub mod Turns
-pub mod Filling
-pub mod Stretches
 pub mod Entries
 pub mod Ancestors
 pub mod Powers
 pub mod Steps
+pub mod Columns

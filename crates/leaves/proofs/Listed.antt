@@ -1,121 +1,106 @@
 -- A list call, test by test: which of its tests refuses, and what is known once they have passed. Assumes nothing.
 use mathlib.Core.Path.{_≡_, ap, _∙_, sym}
 use mathlib.Core.Bool.{Bool, true, false, not, _&&_, _||_, and-eq-true-iff}
-use mathlib.Core.List.{List}
-use Prim.Native.Nat.{ℕ, zero, suc, _+_, _<_}
-use native.Mathlib.Nat.{add-zero, add-suc, suc-add, zero-add}
+use Prim.Native.Nat.{ℕ, _<_}
 use native.Mathlib.Omega.{arith}
 use lib.Dec.{ltb, eqb}
-use lib.ListN.{length, getD}
+use lib.ListN.{length}
 use borrow.Author.Tests.{ltb-false, eqb-true, eqb-false, not-false, le-ltb, eq-eqb, ne-eqb}
-use Rattle.paper.specs.Outcome.{Outcome, accepted, refused, passed, rows}
+use Rattle.paper.specs.Outcome.{Outcome, accepted, refused, passed}
 use Rattle.paper.proofs.Tests.{refused-by, passed-by, or-none}
-use Rattle.paper.proofs.Scan.{accepted-of, accepted-by, carry, rows-length}
-use Rattle.leaves.specs.Leaves.{leaf, leafAt, leaves, spotAt}
-use Rattle.leaves.specs.Calls.{limit, outOfRange, equalColumns, walked, listed}
-use Rattle.leaves.specs.Laws.{nth, ValidList}
+use Rattle.paper.proofs.Scan.{accepted-of, accepted-by, carry}
+use Rattle.leaves.specs.Leaves.{Columns, leaves, room, equalColumns, spotAt}
+use Rattle.leaves.specs.Calls.{limit, outOfRange, walked, listed, checkList}
+use Rattle.leaves.specs.Laws.{ValidList}
 use Rattle.leaves.proofs.Check.{exactly, walked-passed, walked-accepted, walked-refused}
 
--- ---- entry i of the list that stands in three columns
-pub getD-rows : {A : Type 0} (entry : ℕ → A) (d : A) (i k j : ℕ) → j < k → getD (rows entry i k) j d ≡ entry (i + j)
-getD-rows entry d i zero j inside = absurd (omega arith)
-getD-rows entry d i (suc k) zero inside = ap entry (sym (add-zero i))
-getD-rows entry d i (suc k) (suc j) inside = getD-rows entry d (suc i) k j (omega arith) ∙ ap entry (suc-add i j ∙ sym (add-suc i j))
-
-module _ (rs ls ps : List ℕ) where
-  pub at-leaves : (j : ℕ) → j < length rs → nth (leaves rs ls ps) j ≡ leafAt rs ls ps j
-  at-leaves j inside = getD-rows (leafAt rs ls ps) (leaf 0 0 0) 0 (length rs) j inside ∙ ap (leafAt rs ls ps) (zero-add j)
-
-  pub leaves-length : length (leaves rs ls ps) ≡ length rs
-  leaves-length = rows-length (leafAt rs ls ps) 0 (length rs)
-
-module _ (n L K : ℕ) (inRange fitting : Bool) (rs ls ps : List ℕ) where
+module _ (n L K : ℕ) (inRange fitting : Bool) (cs : Columns) where
   abbrev wrongNumber : Bool
   wrongNumber = outOfRange K || not inRange
 
   abbrev rightColumns : Bool
-  rightColumns = equalColumns rs ls ps && fitting
+  rightColumns = equalColumns cs && fitting
 
   abbrev wrongLength : Bool
-  wrongLength = eqb (length rs) 0 || ltb limit (length rs)
+  wrongLength = eqb (room cs) 0 || ltb limit (room cs)
 
   module _ {A : Type 0} (rest : Outcome A) where
-    pub listed-17 : wrongNumber ≡ true → listed n L K inRange fitting rs ls ps rest ≡ refused 17 0
+    pub listed-17 : wrongNumber ≡ true → listed n L K inRange fitting cs rest ≡ refused 17 0
     listed-17 wrong = refused-by wrongNumber 17 0 _ wrong
 
-    pub listed-11 : wrongNumber ≡ false → rightColumns ≡ false → listed n L K inRange fitting rs ls ps rest ≡ refused 11 0
+    pub listed-11 : wrongNumber ≡ false → rightColumns ≡ false → listed n L K inRange fitting cs rest ≡ refused 11 0
     listed-11 number wrong = passed-by wrongNumber 17 0 _ number ∙ refused-by (not rightColumns) 11 0 _ (ap not wrong)
 
-    pub listed-11-length : wrongNumber ≡ false → rightColumns ≡ true → wrongLength ≡ true → listed n L K inRange fitting rs ls ps rest ≡ refused 11 0
+    pub listed-11-length : wrongNumber ≡ false → rightColumns ≡ true → wrongLength ≡ true → listed n L K inRange fitting cs rest ≡ refused 11 0
     listed-11-length number columns wrong =
         passed-by wrongNumber 17 0 _ number ∙ passed-by (not rightColumns) 11 0 _ (ap not columns) ∙ refused-by wrongLength 11 0 _ wrong
 
     pub listed-on : wrongNumber ≡ false → rightColumns ≡ true → wrongLength ≡ false
-        → listed n L K inRange fitting rs ls ps rest ≡ walked n L K 0 (spotAt 0 0) (leaves rs ls ps) rest
+        → listed n L K inRange fitting cs rest ≡ walked n L K 0 (spotAt 0 0) (leaves cs) rest
     listed-on number columns size =
         passed-by wrongNumber 17 0 _ number ∙ passed-by (not rightColumns) 11 0 _ (ap not columns) ∙ passed-by wrongLength 11 0 _ size
 
   -- ---- the tests have passed, or have refused; whatever would follow
-  pub columns-sound : listed n L K inRange fitting rs ls ps passed ≡ passed → ValidList n L K rs ls ps
+  pub columns-sound : listed n L K inRange fitting cs passed ≡ passed → ValidList n L K cs
   columns-sound h =
       let a = accepted-by wrongNumber 17 0 _ h in
       let b = accepted-by (not rightColumns) 11 0 _ (a .1) in
       let d = accepted-by wrongLength 11 0 _ (b .1) in
-      let equal = and-eq-true-iff (eqb (length rs) (length ls)) (eqb (length rs) (length ps)) .0
-      (and-eq-true-iff (equalColumns rs ls ps) fitting .0 (not-false rightColumns (b .0)) .0) in
-      let size = or-none (eqb (length rs) 0) (ltb limit (length rs)) (d .0) in
-      let none = eqb-false (length rs) 0 (size .0) in
+      let equal = and-eq-true-iff (eqb (length (cs .roots)) (length (cs .levels))) (eqb (length (cs .roots)) (length (cs .positions))) .0
+      (and-eq-true-iff (equalColumns cs) fitting .0 (not-false rightColumns (b .0)) .0) in
+      let size = or-none (eqb (room cs) 0) (ltb limit (room cs)) (d .0) in
+      let none = eqb-false (room cs) 0 (size .0) in
       let range = or-none (eqb K 0) (ltb 4096 K) (or-none (outOfRange K) (not inRange) (a .0) .0) in
       record {
         some-root = above (eqb-false K 0 (range .0));
         few-roots = ltb-false 4096 K (range .1);
-        levels-long = eqb-true (length rs) (length ls) (equal .0);
-        positions-long = eqb-true (length rs) (length ps) (equal .1);
+        levels-long = eqb-true (length (cs .roots)) (length (cs .levels)) (equal .0);
+        positions-long = eqb-true (length (cs .roots)) (length (cs .positions)) (equal .1);
         some = above none;
-        few = ltb-false limit (length rs) (size .1);
-        valid = exactly n L K (leaves rs ls ps) .0 (d .1);
+        few = ltb-false limit (room cs) (size .1);
+        valid = exactly n L K (leaves cs) .0 (d .1);
       }
     where
       above : {m : ℕ} → (m ≡ 0 → ⊥) → 0 < m
       above {m} none = omega arith
 
   module _ {B : Type 0} (rest : Outcome B) where
-    pub listed-passed : listed n L K inRange fitting rs ls ps passed ≡ passed → listed n L K inRange fitting rs ls ps rest ≡ rest
+    pub listed-passed : listed n L K inRange fitting cs passed ≡ passed → listed n L K inRange fitting cs rest ≡ rest
     listed-passed h =
         let a = accepted-by wrongNumber 17 0 _ h in
         let b = accepted-by (not rightColumns) 11 0 _ (a .1) in
         let d = accepted-by wrongLength 11 0 _ (b .1) in
-        listed-on rest (a .0) (not-false rightColumns (b .0)) (d .0) ∙ walked-passed n L K rest 0 (spotAt 0 0) (leaves rs ls ps) (d .1)
+        listed-on rest (a .0) (not-false rightColumns (b .0)) (d .0) ∙ walked-passed n L K rest 0 (spotAt 0 0) (leaves cs) (d .1)
 
-    pub listed-accepted : (b : B) → listed n L K inRange fitting rs ls ps rest ≡ accepted b
-        → (listed n L K inRange fitting rs ls ps passed ≡ passed) × (rest ≡ accepted b)
+    pub listed-accepted : (b : B) → listed n L K inRange fitting cs rest ≡ accepted b
+        → (listed n L K inRange fitting cs passed ≡ passed) × (rest ≡ accepted b)
     listed-accepted b h =
         let a = accepted-of wrongNumber 17 0 _ b h in
         let d = accepted-of (not rightColumns) 11 0 _ b (a .1) in
         let e = accepted-of wrongLength 11 0 _ b (d .1) in
-        let leaf-by-leaf = walked-accepted n L K rest 0 (spotAt 0 0) (leaves rs ls ps) b (e .1) in
+        let leaf-by-leaf = walked-accepted n L K rest 0 (spotAt 0 0) (leaves cs) b (e .1) in
         (listed-on passed (a .0) (not-false rightColumns (d .0)) (e .0) ∙ leaf-by-leaf .0, leaf-by-leaf .1)
 
-    pub listed-fits : (b : B) → listed n L K inRange fitting rs ls ps rest ≡ accepted b → (inRange ≡ true) × (fitting ≡ true)
+    pub listed-fits : (b : B) → listed n L K inRange fitting cs rest ≡ accepted b → (inRange ≡ true) × (fitting ≡ true)
     listed-fits b h =
         let a = accepted-of wrongNumber 17 0 _ b h in
         let d = accepted-of (not rightColumns) 11 0 _ b (a .1) in
-        (not-false inRange (or-none (outOfRange K) (not inRange) (a .0) .1), and-eq-true-iff (equalColumns rs ls ps) fitting .0 (not-false rightColumns (d .0)) .1)
+        (not-false inRange (or-none (outOfRange K) (not inRange) (a .0) .1), and-eq-true-iff (equalColumns cs) fitting .0 (not-false rightColumns (d .0)) .1)
 
-    pub listed-refused : (m p : ℕ) → listed n L K inRange fitting rs ls ps passed ≡ refused m p → listed n L K inRange fitting rs ls ps rest ≡ refused m p
+    pub listed-refused : (m p : ℕ) → listed n L K inRange fitting cs passed ≡ refused m p → listed n L K inRange fitting cs rest ≡ refused m p
     listed-refused m p =
         carry wrongNumber 17 0 m p _ _
-        (carry (not rightColumns) 11 0 m p _ _ (carry wrongLength 11 0 m p _ _ (walked-refused n L K rest 0 m p (spotAt 0 0) (leaves rs ls ps))))
+        (carry (not rightColumns) 11 0 m p _ _ (carry wrongLength 11 0 m p _ _ (walked-refused n L K rest 0 m p (spotAt 0 0) (leaves cs))))
 
 -- ---- the list check
-module _ (n L K : ℕ) (rs ls ps : List ℕ) where
-  pub valid-passes : ValidList n L K rs ls ps → listed n L K true true rs ls ps passed ≡ passed
+module _ (n L K : ℕ) (cs : Columns) where
+  pub valid-passes : ValidList n L K cs → checkList n L K cs ≡ passed
   valid-passes v =
       simp (
         ne-eqb K 0 (λ none. omega (arith, v .some-root)),
         le-ltb 4096 K (v .few-roots),
-        eq-eqb (length rs) (length ls) (v .levels-long),
-        eq-eqb (length rs) (length ps) (v .positions-long),
-        ne-eqb (length rs) 0 (λ none. omega (arith, v .some)),
-        le-ltb limit (length rs) (v .few),
-      ) (exactly n L K (leaves rs ls ps) .1 (v .valid))
+        eq-eqb (length (cs .roots)) (length (cs .levels)) (v .levels-long),
+        eq-eqb (length (cs .roots)) (length (cs .positions)) (v .positions-long),
+        ne-eqb (room cs) 0 (λ none. omega (arith, v .some)),
+        le-ltb limit (room cs) (v .few),
+      ) (exactly n L K (leaves cs) .1 (v .valid))

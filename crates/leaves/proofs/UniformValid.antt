@@ -5,9 +5,14 @@ use Prim.Native.Nat.{ℕ, zero, suc, _+_, _-_, _*_, _/_, _%_, _^_, _≤_, _<_}
 use native.Mathlib.Nat.{zero-mul, mod-lt, div-add-mod', div-lt-iff-lt-mul, mul-lt-mul-of-pos-right}
 use native.Mathlib.Decide.{decLt}
 use native.Mathlib.Omega.{arith}
+use lib.ListN.{length}
 use Rattle.paper.specs.Outcome.{rows}
-use Rattle.leaves.specs.Leaves.{Leaf, leaf, Spot, spotAt, span, past, endOf, Covers, Valid, uniform}
+use Rattle.paper.proofs.Scan.{rows-length}
+use Rattle.leaves.specs.Leaves.{Leaf, leaf, Spot, spotAt, span, past, endOf, Covers, Valid, uniformList}
 use Rattle.leaves.proofs.Span.{more-mul, quotient, rest, power-pos, fill, end-last, end-within}
+
+pub uniform-length : (n L K l : ℕ) → length (uniformList n L K l) ≡ K * n ^ l
+uniform-length n L K l = rows-length _ 0 (K * n ^ l)
 
 module _ (n L l : ℕ) (positive : 0 < n) (shallow : l ≤ L) where
   abbrev entry : ℕ → Leaf
@@ -53,5 +58,5 @@ module _ (n L l : ℕ) (positive : 0 < n) (shallow : l ≤ L) where
       let inside : i / n ^ l < K = div-lt-iff-lt-mul whole .1 (omega arith) in
       (shallow, mod-lt i whole, refl, inside, rw (next i) (covers-from K (suc i) k (omega arith)))
 
-  pub uniform-valid : (K : ℕ) → Valid n L K (uniform n L K l)
+  pub uniform-valid : (K : ℕ) → Valid n L K (uniformList n L K l)
   uniform-valid K = rw (spot-first 0 0 (sym (zero-mul (n ^ l)))) at (covers-from K 0 (K * n ^ l) (omega arith))

@@ -4,6 +4,8 @@
 --
 --   up S k e          the element reached from e by taking parents k times
 --   LiesIn S e f      e lies in f: f is reached from e by taking parents, at most as often as there is one
+--   elementOf S v     the element that a leaf is
+--   Proper S v        the leaf is of a level and at a position that the shape has
 --   InLeaf S v r e    the smallest cell e of root r lies in the leaf v
 --   OneLeaf           it lies in exactly one leaf of a list
 --   CellsOnce S K vs  each smallest cell of each of the K roots does
@@ -16,11 +18,12 @@ use mathlib.Core.Logic.{_↔_}
 use mathlib.Core.List.{List}
 use Prim.Native.Nat.{ℕ, zero, suc, _^_, _≤_, _<_}
 use lib.ListN.{length}
+use Rattle.paper.specs.Exactly.{ExactlyOne}
 use Rattle.tree.specs.Shape.{Shape}
 use Rattle.tree.specs.Laws.{Sound}
 use Rattle.tree.specs.Words as words
-use Rattle.leaves.specs.Leaves.{Leaf, Valid}
-use Rattle.leaves.specs.Laws.{nth, Holds}
+use Rattle.leaves.specs.Leaves.{Leaf, nth, Valid}
+use Rattle.leaves.specs.Laws.{Holds}
 
 module _ {E : Type 0} (S : Shape E) where
   unfoldable pub up : ℕ → E → E
@@ -32,16 +35,19 @@ module _ {E : Type 0} (S : Shape E) where
     pub parents : times ≤ S .level e
     pub reached : up times e ≡ f
 
+  abbrev pub elementOf : Leaf → E
+  elementOf v = words.elementAt S (v .level) (v .position)
+
+  pub record Proper (v : Leaf) : Type 0 where
+    pub level : v .level ≤ S .highest
+    pub position : v .position < S .children ^ v .level
+
   pub record InLeaf (v : Leaf) (r : ℕ) (e : E) : Type 0 where
     pub root : v .root ≡ r
-    pub lies : LiesIn e (words.elementAt S (v .level) (v .position))
+    pub lies : LiesIn e (elementOf v)
 
-  -- exactly one: there is one, and any is that one
-  pub record OneLeaf (vs : List Leaf) (r : ℕ) (e : E) : Type 0 where
-    pub which : ℕ
-    pub inside : which < length vs
-    pub holds : InLeaf (nth vs which) r e
-    pub only : (j : ℕ) → j < length vs → InLeaf (nth vs j) r e → j ≡ which
+  abbrev pub OneLeaf : List Leaf → ℕ → E → Type 0
+  OneLeaf vs r e = ExactlyOne (length vs) (λ j. InLeaf (nth vs j) r e)
 
   abbrev pub CellsOnce : ℕ → List Leaf → Type 0
   CellsOnce K vs = (r : ℕ) (e : E) → r < K → Sound S e → S .level e ≡ S .highest → OneLeaf vs r e

@@ -1,6 +1,5 @@
 -- What is promised of leaf lists, as statements, over the number of children and the highest level. Definitions only.
 --
---   nth vs j          leaf j of a list
 --   ValidList         "A list is three columns of equal length: root, level, position; 1 to 1,048,576 leaves. It is valid for K roots when .."
 --   Holds v r q       smallest cell q of root r lies in the leaf v, by its position: the leaf is of that root, and the cell's position divided by
 --                     the cells that the leaf holds is the leaf's. `Cells.antt` says it by taking parents, and that the two agree
@@ -12,46 +11,39 @@
 -- Assumes nothing.
 use mathlib.Core.Path.{_≡_}
 use mathlib.Core.Logic.{_↔_}
-use mathlib.Core.Bool.{Bool, true}
+use mathlib.Core.Bool.{Bool}
 use mathlib.Core.List.{List}
 use Prim.Native.Nat.{ℕ, _*_, _/_, _^_, _≤_, _<_}
-use lib.ListN.{length, getD}
+use lib.ListN.{length}
 use Rattle.paper.specs.Outcome.{Outcome, accepted, passed}
-use Rattle.leaves.specs.Leaves.{Leaf, leaf, leaves, Valid, uniform, span}
-use Rattle.leaves.specs.Calls.{limit, listed}
-
--- leaf j of a list
-abbrev pub nth : List Leaf → ℕ → Leaf
-nth vs j = getD vs j (leaf 0 0 0)
+use Rattle.paper.specs.Exactly.{ExactlyOne}
+use Rattle.leaves.specs.Leaves.{Leaf, nth, Columns, leaves, room, Valid, uniformList, span}
+use Rattle.leaves.specs.Calls.{limit, listed, checkList}
 
 module _ (n L : ℕ) where
   pub record Holds (v : Leaf) (r q : ℕ) : Type 0 where
     pub root : v .root ≡ r
     pub ancestor : q / span n L (v .level) ≡ v .position
 
-  -- exactly one: there is one, and any is that one
-  pub record Once (vs : List Leaf) (r q : ℕ) : Type 0 where
-    pub which : ℕ
-    pub inside : which < length vs
-    pub holds : Holds (nth vs which) r q
-    pub only : (j : ℕ) → j < length vs → Holds (nth vs j) r q → j ≡ which
+  abbrev pub Once : List Leaf → ℕ → ℕ → Type 0
+  Once vs r q = ExactlyOne (length vs) (λ j. Holds (nth vs j) r q)
 
   abbrev pub OnceEach : ℕ → List Leaf → Type 0
   OnceEach K vs = (r q : ℕ) → r < K → q < n ^ L → Once vs r q
 
-  pub record ValidList (K : ℕ) (roots levels positions : List ℕ) : Type 0 where
+  pub record ValidList (K : ℕ) (cs : Columns) : Type 0 where
     pub some-root : 0 < K
     pub few-roots : K ≤ 4096
-    pub levels-long : length roots ≡ length levels
-    pub positions-long : length roots ≡ length positions
-    pub some : 0 < length roots
-    pub few : length roots ≤ limit
-    pub valid : Valid n L K (leaves roots levels positions)
+    pub levels-long : length (cs .roots) ≡ length (cs .levels)
+    pub positions-long : length (cs .roots) ≡ length (cs .positions)
+    pub some : 0 < room cs
+    pub few : room cs ≤ limit
+    pub valid : Valid n L K (leaves cs)
 
   pub record Promised : Type 1 where
-    pub exactly : (K : ℕ) (roots levels positions : List ℕ) → listed n L K true true roots levels positions passed ≡ passed ↔ ValidList K roots levels positions
-    pub accepts : {A : Type 0} (K : ℕ) (inRange fitting : Bool) (roots levels positions : List ℕ) (rest : Outcome A) (a : A)
-        → listed n L K inRange fitting roots levels positions rest ≡ accepted a → ValidList K roots levels positions
+    pub exactly : (K : ℕ) (cs : Columns) → checkList n L K cs ≡ passed ↔ ValidList K cs
+    pub accepts : {A : Type 0} (K : ℕ) (inRange fitting : Bool) (cs : Columns) (rest : Outcome A) (a : A)
+        → listed n L K inRange fitting cs rest ≡ accepted a → ValidList K cs
     pub once-each : (K : ℕ) (vs : List Leaf) → Valid n L K vs → OnceEach K vs
-    pub of-uniform : (K l : ℕ) → l ≤ L → Valid n L K (uniform n L K l)
-    pub uniform-long : (K l : ℕ) → length (uniform n L K l) ≡ K * n ^ l
+    pub of-uniform : (K l : ℕ) → l ≤ L → Valid n L K (uniformList n L K l)
+    pub uniform-long : (K l : ℕ) → length (uniformList n L K l) ≡ K * n ^ l

@@ -6,7 +6,7 @@ ghost use Prim.Native.Nat.{_*_, _^_, _≤_, _<_};
 ghost use lib.Dec.{ltb, eqb};
 ghost use Rattle.leaves.specs.Leaves.{leaf};
 ghost use Rattle.leaves.specs.Calls.{leafFault};
-ghost use Rattle.leaves.specs.Readings.{spotOf};
+ghost use Rattle.leaves.specs.Inner.{spotOf};
 
 // The first of 1, 5, 12 that a leaf has where the list has come to, or 0.
 pub(crate) fn leaf_fault(

@@ -1,27 +1,32 @@
 -- Document 01, "Elements": lines. L is the highest level. Definitions only.
 --
 --   "Lower line half is 0, upper is 1."   "Line face 0 is x-h, face 1 is x+h."
---   "children 2 ..; faces 2 ..; corners 2"
 --   Faults: 1 level above the highest, 2 anchor 2^21 or more, or no multiple of h
 --
+--   CHILDREN, FACES, CORNERS   "children 2 ..; faces 2 ..; corners 2"
 --   lineTo L      lines as a shape, highest level L
 --   line          "highest level 21 for all three"
---   lineOf     the outcome that a LineAnswer stands for
---   element i     entry i of the two lent columns
---   elements      all of them
+--   lineOf        the outcome that a LineAnswer stands for
 --
--- Assumes nothing.
+-- Not here: several in lent columns (`Columns.antt`). Assumes nothing.
 use mathlib.Core.Bool.{_&&_}
-use mathlib.Core.List.{List}
 use Prim.Native.Nat.{ℕ, suc, _+_, _-_, _*_}
 use lib.Dec.{ltb, eqb}
-use lib.ListN.{length, getD}
-use Rattle.paper.specs.Outcome.{Outcome, accepted, refused, refuse-when, fault-when, rows}
+use Rattle.paper.specs.Outcome.{Outcome, accepted, refused, refuse-when, fault-when}
 use Rattle.tree.specs.Shape.{Shape}
-use Rattle.tree.specs.Anchors.{side, offGrid, rounded, bitAt, moved, offEdge}
+use Rattle.tree.specs.Anchors.{HIGHEST, side, offGrid, rounded, bitAt, moved, offEdge}
 use Rattle.line.specs.declared.Line.{Line}
 use Rattle.line.specs.declared.LineAnswer.{LineAnswer}
 use Rattle.line.specs.declared.LineAnswer.the-variants.{Is, Refused}
+
+abbrev pub CHILDREN : ℕ
+CHILDREN = 2
+
+abbrev pub FACES : ℕ
+FACES = 2
+
+abbrev pub CORNERS : ℕ
+CORNERS = 2
 
 module _ (L : ℕ) where
   abbrev pub fault : Line → ℕ
@@ -45,9 +50,9 @@ module _ (L : ℕ) where
   unfoldable pub lineTo : Shape Line
   lineTo =
       record {
-        children = 2;
-        faces = 2;
-        corners = 2;
+        children = CHILDREN;
+        faces = FACES;
+        corners = CORNERS;
         highest = L;
         level = λ e. e .level;
         fault = fault;
@@ -60,14 +65,8 @@ module _ (L : ℕ) where
       }
 
 abbrev pub line : Shape Line
-line = lineTo 21
+line = lineTo HIGHEST
 
 abbrev pub lineOf : LineAnswer → Outcome Line
 lineOf (Is e) = accepted e
 lineOf (Refused number place) = refused number place
-
-abbrev pub element : List ℕ → List ℕ → ℕ → Line
-element levels xs i = record { x = getD xs i 0; level = getD levels i 0 }
-
-abbrev pub elements : List ℕ → List ℕ → List Line
-elements levels xs = rows (element levels xs) 0 (length levels)

@@ -4,15 +4,17 @@ use paper::Fault;
 ghost use mathlib.Core.Path.{_≡_};
 ghost use Prim.Native.Nat.{_<_};
 ghost use lib.ListN.{length};
-ghost use Rattle.paper.specs.Outcome.{checks, passed};
+ghost use Rattle.paper.specs.Outcome.{checks};
 ghost use Rattle.paper.specs.Readings.{checksOf};
 ghost use Rattle.tree.specs.Words;
-ghost use Rattle.line.specs.Elements.{line, element, elements};
+ghost use Rattle.line.specs.Elements.{line};
+ghost use Rattle.line.specs.Columns.{columns, element, elements};
+ghost use Rattle.line.specs.Inner.{Equal, Checked};
 
 // An element of the columns.
-fn row(levels: &[u8], xs: &[u32], i: usize) -> Line
-    requires { ⌜ (i < length (now levels)) × (length (now levels) ≡ length (now xs)) ⌝ }
-    ensures { λ r. ⌜ r ≡ element (now (levels .entry)) (now (xs .entry)) i ⌝ }
+fn row(xs: &[u32], levels: &[u8], i: usize) -> Line
+    requires { ⌜ (i < length (now xs)) × Equal (columns (now xs) (now levels)) ⌝ }
+    ensures { λ r. ⌜ r ≡ element (columns (now (xs .entry)) (now (levels .entry))) i ⌝ }
 {
     Line {
         x: xs[i],
@@ -21,13 +23,13 @@ fn row(levels: &[u8], xs: &[u32], i: usize) -> Line
 }
 
 // The first element that fails a check.
-pub(crate) fn first_fault(levels: &[u8], xs: &[u32]) -> Fault
-    requires { ⌜ length (now levels) ≡ length (now xs) ⌝ }
-    ensures { λ r. ⌜ checksOf r ≡ checks (line .fault) (elements (now (levels .entry)) (now (xs .entry))) ⌝ }
+pub(crate) fn first_fault(xs: &[u32], levels: &[u8]) -> Fault
+    requires { ⌜ Equal (columns (now xs) (now levels)) ⌝ }
+    ensures { λ r. ⌜ checksOf r ≡ checks (line .fault) (elements (columns (now (xs .entry)) (now (levels .entry)))) ⌝ }
 {
     let mut i = 0;
-    while i < levels.len() {
-        let fault = row(levels, xs, i).fault();
+    while i < xs.len() {
+        let fault = row(xs, levels, i).fault();
         if fault != 0 {
             return Fault {
                 number: fault,
@@ -44,21 +46,21 @@ pub(crate) fn first_fault(levels: &[u8], xs: &[u32]) -> Fault
 
 // Whether sound elements are a family: as many as a parent has children, and one after the other the children of the first
 // one's parent.
-pub(crate) fn are_siblings(levels: &[u8], xs: &[u32]) -> bool
-    requires { ⌜ (length (now levels) ≡ length (now xs)) × (checks (line .fault) (elements (now levels) (now xs)) ≡ passed) ⌝ }
-    ensures { λ r. ⌜ r ≡ Words.family line (elements (now (levels .entry)) (now (xs .entry))) ⌝ }
+pub(crate) fn are_siblings(xs: &[u32], levels: &[u8]) -> bool
+    requires { ⌜ Checked (columns (now xs) (now levels)) ⌝ }
+    ensures { λ r. ⌜ r ≡ Words.family line (elements (columns (now (xs .entry)) (now (levels .entry)))) ⌝ }
 {
-    if levels.len() != 2 {
+    if xs.len() != Line::CHILDREN as usize {
         return false;
     }
-    let first = row(levels, xs, 0);
+    let first = row(xs, levels, 0);
     if first.level == 0 {
         return false;
     }
     let parent = first.up();
     let mut i = 0;
-    while i < 2 {
-        if !parent.down(i as u8).equals(row(levels, xs, i)) {
+    while i < Line::CHILDREN as usize {
+        if !parent.down(i as u8).equals(row(xs, levels, i)) {
             return false;
         }
         i += 1;

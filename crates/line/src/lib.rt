@@ -3,13 +3,13 @@
 use paper::CompareAnswer;
 use paper::NumberAnswer;
 use paper::TruthAnswer;
+use tree::HIGHEST;
 ghost use mathlib.Core.Path.{_≡_};
 ghost use Prim.Native.Nat.{_<_};
-ghost use lib.Dec.{eqb};
-ghost use lib.ListN.{length};
 ghost use Rattle.paper.specs.Readings.{valueOf, truthOf, comparisonOf};
 ghost use Rattle.tree.specs.Calls;
-ghost use Rattle.line.specs.Elements.{line, lineOf, elements};
+ghost use Rattle.line.specs.Elements.{line, lineOf};
+ghost use Rattle.line.specs.Columns.{columns, family};
 
 mod family;
 mod work;
@@ -37,7 +37,7 @@ impl Line {
     pub fn at(level: u8, position: u64) -> LineAnswer
         ensures { λ r. ⌜ lineOf r ≡ Calls.at line level position ⌝ }
     {
-        if 21 < level {
+        if HIGHEST < level {
             return LineAnswer::Refused(1, 0);
         }
         if 1u64 << level <= position {
@@ -79,7 +79,7 @@ impl Line {
         if fault != 0 {
             return LineAnswer::Refused(fault, 0);
         }
-        if 21 <= self.level {
+        if HIGHEST <= self.level {
             return LineAnswer::Refused(7, 0);
         }
         if Self::CHILDREN <= number {
@@ -112,7 +112,7 @@ impl Line {
         if fault != 0 {
             return LineAnswer::Refused(fault, 0);
         }
-        if 21 < level {
+        if HIGHEST < level {
             return LineAnswer::Refused(1, 0);
         }
         if level < self.level {
@@ -129,7 +129,7 @@ impl Line {
         if fault != 0 {
             return LineAnswer::Refused(fault, 0);
         }
-        if 21 < level {
+        if HIGHEST < level {
             return LineAnswer::Refused(1, 0);
         }
         if level < self.level {
@@ -169,16 +169,16 @@ impl Line {
 
     // Whether the elements of the columns are all children of one parent, in order. Refused: 11, then 1, 2 at each element's
     // index.
-    pub fn family(levels: &[u8], xs: &[u32]) -> TruthAnswer
-        ensures { λ r. ⌜ truthOf r ≡ Calls.family line (eqb (length (now (levels .entry))) (length (now (xs .entry)))) (elements (now (levels .entry)) (now (xs .entry))) ⌝ }
+    pub fn family(xs: &[u32], levels: &[u8]) -> TruthAnswer
+        ensures { λ r. ⌜ truthOf r ≡ family (columns (now (xs .entry)) (now (levels .entry))) ⌝ }
     {
-        if levels.len() != xs.len() {
+        if xs.len() != levels.len() {
             return TruthAnswer::Refused(11, 0);
         }
-        let fault = family::first_fault(levels, xs);
+        let fault = family::first_fault(xs, levels);
         if fault.number != 0 {
             return TruthAnswer::Refused(fault.number, fault.place);
         }
-        TruthAnswer::Is(family::are_siblings(levels, xs))
+        TruthAnswer::Is(family::are_siblings(xs, levels))
     }
 }

@@ -1,10 +1,12 @@
 // What the calls do once their tests have passed. Each function asks for just what those tests have shown.
 use crate::Line;
 use crate::LineAnswer;
+use tree::HIGHEST;
 ghost use mathlib.Core.Path.{_≡_};
 ghost use Prim.Native.Nat.{_^_, _≤_, _<_};
+ghost use Rattle.tree.specs.Anchors.{HIGHEST};
 ghost use Rattle.tree.specs.Words;
-ghost use Rattle.line.specs.Elements.{line, lineOf};
+ghost use Rattle.line.specs.Elements.{CHILDREN, FACES, line, lineOf};
 
 // No check fails.
 const SOUND: u8 = 0;
@@ -14,7 +16,7 @@ impl Line {
     pub(crate) fn fault(self) -> u8
         ensures { λ r. ⌜ r ≡ line .fault self ⌝ }
     {
-        if 21 < self.level {
+        if HIGHEST < self.level {
             return 1;
         }
         if tree::off_grid(self.level, self.x) {
@@ -36,11 +38,11 @@ impl Line {
         requires { ⌜ line .fault self ≡ 0 ⌝ }
         ensures { λ r. ⌜ r ≡ Words.position line self ⌝ }
     {
-        (self.x >> (21 - self.level)) as u64
+        (self.x >> (HIGHEST - self.level)) as u64
     }
 
     pub(crate) fn up(self) -> Line
-        requires { ⌜ (0 < self .level) × (self .level ≤ 21) ⌝ }
+        requires { ⌜ (0 < self .level) × (self .level ≤ HIGHEST) ⌝ }
         ensures { λ r. ⌜ r ≡ line .parent self ⌝ }
     {
         let level = self.level - 1;
@@ -51,7 +53,7 @@ impl Line {
     }
 
     pub(crate) fn down(self, number: u8) -> Line
-        requires { ⌜ (line .fault self ≡ 0) × ((self .level < 21) × (number < 2)) ⌝ }
+        requires { ⌜ (line .fault self ≡ 0) × ((self .level < HIGHEST) × (number < CHILDREN)) ⌝ }
         ensures { λ r. ⌜ r ≡ line .child self number ⌝ }
     {
         let level = self.level + 1;
@@ -62,7 +64,7 @@ impl Line {
     }
 
     pub(crate) fn bottom(self, level: u8) -> Line
-        requires { ⌜ (line .fault self ≡ 0) × ((self .level ≤ level) × (level ≤ 21)) ⌝ }
+        requires { ⌜ (line .fault self ≡ 0) × ((self .level ≤ level) × (level ≤ HIGHEST)) ⌝ }
         ensures { λ r. ⌜ r ≡ Words.last line self level ⌝ }
     {
         Line {
@@ -72,7 +74,7 @@ impl Line {
     }
 
     pub(crate) fn across(self, face: u8) -> LineAnswer
-        requires { ⌜ (line .fault self ≡ 0) × (face < 2) ⌝ }
+        requires { ⌜ (line .fault self ≡ 0) × (face < FACES) ⌝ }
         ensures { λ r. ⌜ lineOf r ≡ line .neighbour self face ⌝ }
     {
         let level = self.level;
@@ -86,11 +88,11 @@ impl Line {
 
 // The element at a position that the level has.
 pub(crate) fn placed(level: u8, position: u64) -> Line
-    requires { ⌜ (level ≤ 21) × (position < 2 ^ level) ⌝ }
+    requires { ⌜ (level ≤ HIGHEST) × (position < CHILDREN ^ level) ⌝ }
     ensures { λ r. ⌜ r ≡ Words.elementAt line level position ⌝ }
 {
     Line {
-        x: (position as u32) << (21 - level),
+        x: (position as u32) << (HIGHEST - level),
         level,
     }
 }

@@ -33,3 +33,9 @@ module _ {R A B M : Type 0} (reading : R → Outcome B) (shown : A → B) (put :
         answer = said ∙ sym (ap (mapped shown) is);
         memory = kept ∙ sym (ap (λ (o : Outcome A). left put o m) is);
       }
+
+-- ---- over another interface: what is shown there of the outcome is g of what the answer's reading shows
+module _ {R Q A B M : Type 0} (reading : R → Outcome B) (shown : A → B) (put : A → M → M) (due : Outcome A) (g : Outcome B → Q) where
+  pub carried : (a : R) (r : Q) (m m′ : M) → r ≡ g (reading a) → Fulfils reading (mapped shown) put due a m m′
+      → Fulfils (λ (q : Q). q) (λ o. g (mapped shown o)) put due r m m′
+  carried a r m m′ e f = record { answer = e ∙ ap g (f .answer); memory = f .memory }

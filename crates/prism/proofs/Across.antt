@@ -11,51 +11,45 @@ use Rattle.paper.specs.Outcome.{Outcome, accepted, refused, mapped, refuse-when
 use Rattle.tree.specs.Anchors.{side, moved, offEdge}
 use Rattle.tree.proofs.Anchor.{grid-lt}
 use Rattle.tree.proofs.Move.{moved-gone, moved-stays, moved-is, still, still-stays}
-use Rattle.tree.proofs.Cases.{below-2, below-3, below-5}
+use Rattle.tree.proofs.Cases.{below-2, below-3}
 use Rattle.line.specs.declared.Line.{Line}
 use Rattle.triangle.specs.declared.Triangle.{Triangle}
-use Rattle.triangle.specs.Rows.{faceRow}
+use Rattle.rows.specs.Rows.{faceRow}
 use Rattle.triangle.specs.Elements.{insideRoot}
 use Rattle.triangle.proofs.Laws.{Known}
 use Rattle.line.specs.Elements as line
-use Rattle.prism.specs.declared.rows.Side.{Side}
+use Rattle.rows.specs.declared.PrismStep.{PrismStep}
 use Rattle.prism.specs.declared.Prism.{Prism}
-use Rattle.prism.specs.Rows.{sided, sideRow}
+use Rattle.rows.specs.Rows.{prismStep, prismFaceRow}
 use Rattle.prism.specs.Elements.{fault, neighbour, plan, upright, product}
 use Rattle.prism.proofs.Laws.{grids}
 
 -- ---- the rows
--- a statement about the two rows of five, entry by entry
-pub each-side : (P : ℕ → ℕ → Type 0) → P 0 0 → P 0 1 → P 0 2 → P 0 3 → P 0 4 → P 1 0 → P 1 1 → P 1 2 → P 1 3 → P 1 4
-    → (t i : ℕ) → t < 2 → i < 5 → P t i
-each-side P a b c d e f g h i j t n kind small =
-    below-2 (λ (k : ℕ). P k n) (below-5 (P 0) a b c d e n small) (below-5 (P 1) f g h i j n small) t kind
-
-side-plan : (t i : ℕ) → t < 2 → i < 3 → sideRow t i ≡ sided (faceRow t i .x) (faceRow t i .y) 1 (faceRow t i .kind)
+side-plan : (t i : ℕ) → t < 2 → i < 3 → prismFaceRow t i ≡ prismStep (faceRow t i .x) (faceRow t i .y) 1 (faceRow t i .kind)
 side-plan t i kind small =
-    below-2 (λ (k : ℕ). sideRow k i ≡ sided (faceRow k i .x) (faceRow k i .y) 1 (faceRow k i .kind))
-    (below-3 (λ (j : ℕ). sideRow 0 j ≡ sided (faceRow 0 j .x) (faceRow 0 j .y) 1 (faceRow 0 j .kind)) refl refl refl i small)
-    (below-3 (λ (j : ℕ). sideRow 1 j ≡ sided (faceRow 1 j .x) (faceRow 1 j .y) 1 (faceRow 1 j .kind)) refl refl refl i small)
+    below-2 (λ (k : ℕ). prismFaceRow k i ≡ prismStep (faceRow k i .x) (faceRow k i .y) 1 (faceRow k i .kind))
+    (below-3 (λ (j : ℕ). prismFaceRow 0 j ≡ prismStep (faceRow 0 j .x) (faceRow 0 j .y) 1 (faceRow 0 j .kind)) refl refl refl i small)
+    (below-3 (λ (j : ℕ). prismFaceRow 1 j ≡ prismStep (faceRow 1 j .x) (faceRow 1 j .y) 1 (faceRow 1 j .kind)) refl refl refl i small)
     t kind
 
-side-upright : (t i : ℕ) → t < 2 → i < 2 → sideRow t (3 + i) ≡ sided 1 1 (2 * i) t
+side-upright : (t i : ℕ) → t < 2 → i < 2 → prismFaceRow t (3 + i) ≡ prismStep 1 1 (2 * i) t
 side-upright t i kind small =
-    below-2 (λ (k : ℕ). sideRow k (3 + i) ≡ sided 1 1 (2 * i) k)
-    (below-2 (λ (j : ℕ). sideRow 0 (3 + j) ≡ sided 1 1 (2 * j) 0) refl refl i small)
-    (below-2 (λ (j : ℕ). sideRow 1 (3 + j) ≡ sided 1 1 (2 * j) 1) refl refl i small)
+    below-2 (λ (k : ℕ). prismFaceRow k (3 + i) ≡ prismStep 1 1 (2 * i) k)
+    (below-2 (λ (j : ℕ). prismFaceRow 0 (3 + j) ≡ prismStep 1 1 (2 * j) 0) refl refl i small)
+    (below-2 (λ (j : ℕ). prismFaceRow 1 (3 + j) ≡ prismStep 1 1 (2 * j) 1) refl refl i small)
     t kind
 
 -- ---- the step of a row; h is the side
-abbrev out : Prism → Side → ℕ → Bool
+abbrev out : Prism → PrismStep → ℕ → Bool
 out e s h =
     offEdge 21 h (s .x) (e .x)
     || (offEdge 21 h (s .y) (e .y)
     || (offEdge 21 h (s .z) (e .z) || not (insideRoot (s .kind) (moved h (s .x) (e .x)) (moved h (s .y) (e .y)))))
 
-abbrev there : Prism → Side → ℕ → Prism
+abbrev there : Prism → PrismStep → ℕ → Prism
 there e s h = record { x = moved h (s .x) (e .x); y = moved h (s .y) (e .y); z = moved h (s .z) (e .z); level = e .level; kind = s .kind }
 
-abbrev pub acrossBy : Prism → Side → Outcome Prism
+abbrev pub acrossBy : Prism → PrismStep → Outcome Prism
 acrossBy e s = refuse-when (out e s (side 21 (e .level))) 10 (accepted (there e s (side 21 (e .level))))
 
 mapped-refuse : {A B : Type 0} (g : A → B) (t : Bool) (a : A) → mapped g (refuse-when t 10 (accepted a)) ≡ refuse-when t 10 (accepted (g a))
@@ -74,11 +68,11 @@ module _ (e : Prism) (sound : fault 21 e ≡ 0) where
   h : ℕ
   h = side 21 (e .level)
 
-  by-plan : (i : ℕ) → i < 3 → neighbour 21 e i ≡ acrossBy e (sideRow (e .kind) i)
+  by-plan : (i : ℕ) → i < 3 → neighbour 21 e i ≡ acrossBy e (prismFaceRow (e .kind) i)
   unfolding neighbour h
   by-plan i small =
       let f = faceRow (e .kind) i in
-      let s = sided (f .x) (f .y) 1 (f .kind) in
+      let s = prismStep (f .x) (f .y) 1 (f .kind) in
       let rest = not (insideRoot (f .kind) (moved h (f .x) (e .x)) (moved h (f .y) (e .y))) in
       let stays = still-stays 21 h (e .z) (grid-lt 21 (e .level) (e .z) (grids 21 e sound .1)) in
       simp (lt-ltb i 3 small)
@@ -88,7 +82,7 @@ module _ (e : Prism) (sound : fault 21 e ≡ 0) where
       (sym (still h (e .z)))
       ∙ ap (acrossBy e) (sym (side-plan (e .kind) i (k .typed) small)))
 
-  by-upright : (i : ℕ) → i < 2 → neighbour 21 e (3 + i) ≡ acrossBy e (sideRow (e .kind) (3 + i))
+  by-upright : (i : ℕ) → i < 2 → neighbour 21 e (3 + i) ≡ acrossBy e (prismFaceRow (e .kind) (3 + i))
   unfolding neighbour h
   by-upright i small =
       let m = 2 * i in
@@ -97,11 +91,11 @@ module _ (e : Prism) (sound : fault 21 e ≡ 0) where
       let stays-y = still-stays 21 h (e .y) (grid-lt 21 (e .level) (e .y) (k .grid-y)) in
       let inside : not (insideRoot (e .kind) (moved h 1 (e .x)) (moved h 1 (e .y))) ≡ false =
       ap₂ (λ (a b : ℕ). not (insideRoot (e .kind) a b)) (still h (e .x)) (still h (e .y)) ∙ ap not (k .inside) in
-      let test : out e (sided 1 1 m (e .kind)) h ≡ offEdge 21 h m (e .z) =
+      let test : out e (prismStep 1 1 m (e .kind)) h ≡ offEdge 21 h m (e .z) =
       ap₂ (λ (a b : Bool). a || (b || (offEdge 21 h m (e .z) || not (insideRoot (e .kind) (moved h 1 (e .x)) (moved h 1 (e .y)))))) stays-x stays-y
       ∙ ap (λ (t : Bool). offEdge 21 h m (e .z) || t) inside
       ∙ or-last (offEdge 21 h m (e .z)) in
-      let here : there e (sided 1 1 m (e .kind)) h ≡ product (plan e) (record { x = moved h m (e .z); level = e .level }) =
+      let here : there e (prismStep 1 1 m (e .kind)) h ≡ product (plan e) (record { x = moved h m (e .z); level = e .level }) =
       λ j. record { x = still h (e .x) j; y = still h (e .y) j; z = moved h m (e .z); level = e .level; kind = e .kind } in
       simp (le-ltb (3 + i) 3 (omega arith))
       (ap (λ (n : ℕ). mapped (λ (l : Line). product (plan e) l) (line.neighbour 21 (upright e) n)) same
@@ -109,7 +103,7 @@ module _ (e : Prism) (sound : fault 21 e ≡ 0) where
       ∙ sym (ap₂ (λ (t : Bool) (f : Prism). refuse-when t 10 (accepted f)) test here)
       ∙ ap (acrossBy e) (sym (side-upright (e .kind) i (k .typed) small)))
 
-  pub neighbour-by : (i : ℕ) → i < 5 → neighbour 21 e i ≡ acrossBy e (sideRow (e .kind) i)
+  pub neighbour-by : (i : ℕ) → i < 5 → neighbour 21 e i ≡ acrossBy e (prismFaceRow (e .kind) i)
   neighbour-by i small = ⊎-elim (by-plan i) beyond (split i)
     where
       split : (n : ℕ) → (n < 3) ⊎ (3 ≤ n)
@@ -119,13 +113,13 @@ module _ (e : Prism) (sound : fault 21 e ≡ 0) where
           decide (yes low) = inl low
           decide (no high) = inr (omega arith)
 
-      beyond : 3 ≤ i → neighbour 21 e i ≡ acrossBy e (sideRow (e .kind) i)
+      beyond : 3 ≤ i → neighbour 21 e i ≡ acrossBy e (prismFaceRow (e .kind) i)
       beyond large =
           let again : 3 + (i - 3) ≡ i = omega arith in
-          subst (λ (n : ℕ). neighbour 21 e n ≡ acrossBy e (sideRow (e .kind) n)) again (by-upright (i - 3) (omega arith))
+          subst (λ (n : ℕ). neighbour 21 e n ≡ acrossBy e (prismFaceRow (e .kind) n)) again (by-upright (i - 3) (omega arith))
 
 -- ---- the code's way out. s is the row; w is the side, x, y and z the moved coordinates, as the code has them
-module _ (e : Prism) (s : Side) (w x y z : ℕ) (sized : w ≡ side 21 (e .level))
+module _ (e : Prism) (s : PrismStep) (w x y z : ℕ) (sized : w ≡ side 21 (e .level))
     (at-x : x ≡ cond (offEdge 21 w (s .x) (e .x)) 4294967295 (moved w (s .x) (e .x)))
     (at-y : y ≡ cond (offEdge 21 w (s .y) (e .y)) 4294967295 (moved w (s .y) (e .y)))
     (at-z : z ≡ cond (offEdge 21 w (s .z) (e .z)) 4294967295 (moved w (s .z) (e .z))) where

@@ -11,10 +11,10 @@ use Rattle.tree.specs.Words.{elementAt, positionAt, position}
 use Rattle.tree.proofs.Anchor.{side-edge, units-child, units-rounded, units-bit, grid-units}
 use Rattle.tree.proofs.Walk.{reached-start, reached-step, reached-end, climbed-start, climbed-step, climbed-end, sum-below}
 use Rattle.line.proofs.Laws.{line-path}
-use Rattle.triangle.specs.declared.rows.Step.{Step}
-use Rattle.triangle.specs.declared.rows.Place.{Place}
-use Rattle.triangle.specs.Rows.{step, childRow, parentKind, numberOf}
-use Rattle.triangle.proofs.Tables.{childRow-small, parentKind-lt, numberOf-lt}
+use Rattle.rows.specs.declared.Step.{Step}
+use Rattle.rows.specs.declared.Slot.{Slot}
+use Rattle.rows.specs.Rows.{step, childRow, slotOf, parentKind, numberOf}
+use Rattle.rows.proofs.Tables.{childRow-small, parentKind-lt, numberOf-lt}
 use Rattle.triangle.proofs.Units as plan
 use Rattle.prism.specs.declared.Prism.{Prism}
 use Rattle.prism.specs.Elements.{prism, prismTo, product}
@@ -153,25 +153,31 @@ climb-start l x y z t typed =
           ∙ ap (λ (m : ℕ). 0 + 2 ^ (3 * 0) * positionAt prism (l - 0) (unit m x y z t)) all;
     }
 
-module _ (P l sum i x y z t : ℕ) (r : Climbed P l sum i x y z t) (shallow : l ≤ 21) (place : Place)
-    (kind-is : place .kind ≡ parentKind (step (x % 2) (y % 2) (t % 2))) (number-is : place .number ≡ numberOf (step (x % 2) (y % 2) (t % 2))) where
+module _ (P l sum i x y z t : ℕ) (r : Climbed P l sum i x y z t) (shallow : l ≤ 21) (slot : Slot)
+    (read : slot ≡ slotOf (step (x % 2) (y % 2) (t % 2))) where
+  kind-is : slot .kind ≡ parentKind (step (x % 2) (y % 2) (t % 2))
+  kind-is = ap (λ (s : Slot). s .kind) read
+
+  number-is : slot .number ≡ numberOf (step (x % 2) (y % 2) (t % 2))
+  number-is = ap (λ (s : Slot). s .number) read
+
   -- the type is 0 or 1, so the remainder is the type
   plain : step (x % 2) (y % 2) (t % 2) ≡ step (x % 2) (y % 2) t
   plain = ap (step (x % 2) (y % 2)) (mod-eq-of-lt (r .typed))
 
-  pub climb-digit : 4 * (z % 2) + place .number < 8
+  pub climb-digit : 4 * (z % 2) + slot .number < 8
   climb-digit =
       let low = numberOf-lt (x % 2) (y % 2) t (mod-lt x (lit< tt)) (mod-lt y (lit< tt)) (r .typed) in
       rw (number-is, plain) (omega arith)
 
-  pub climb-again : i < l → Climbed P l (sum + (4 * (z % 2) + place .number) * 2 ^ (3 * i)) (i + 1) (x / 2) (y / 2) (z / 2) (place .kind)
+  pub climb-again : i < l → Climbed P l (sum + (4 * (z % 2) + slot .number) * 2 ^ (3 * i)) (i + 1) (x / 2) (y / 2) (z / 2) (slot .kind)
   climb-again more =
       let up : l - i ≡ suc (l - (i + 1)) = omega arith in
       let e = unit (l - i) x y z t in
       let same : e ≡ unit (suc (l - (i + 1))) x y z t = ap (λ (k : ℕ). unit k x y z t) up in
-      let d = 4 * (z % 2) + place .number in
+      let d = 4 * (z % 2) + slot .number in
       let digit : 4 * (z % 2) + numberOf (step (x % 2) (y % 2) t) ≡ d = ap (λ (n : ℕ). 4 * (z % 2) + n) (sym (number-is ∙ ap numberOf plain)) in
-      let kind : parentKind (step (x % 2) (y % 2) t) ≡ place .kind = sym (kind-is ∙ ap parentKind plain) in
+      let kind : parentKind (step (x % 2) (y % 2) t) ≡ slot .kind = sym (kind-is ∙ ap parentKind plain) in
       let number = ap (prism .number) same ∙ unit-number (suc (l - (i + 1))) x y z t ∙ digit in
       let parent = ap (prism .parent) same ∙ unit-parent (l - (i + 1)) x y z t (omega arith) ∙ ap (unit (l - (i + 1)) (x / 2) (y / 2) (z / 2)) kind in
       record {

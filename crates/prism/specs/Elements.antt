@@ -3,27 +3,21 @@
 --   "Inside the root means y <= x for type 0 and y < x for type 1; z is free"
 --   "A prism child's number is 4 times the line number plus the triangle number."
 --   "Prism faces 0 to 2 follow the triangle; face 3 is z-h, face 4 is z+h, same type."
---   "children .. 8; faces .. 5; corners .. 6"
 --   Faults: 1 level above the highest, 2 anchor 2^21 or more, or no multiple of h, 3 type above 1, 4 outside the root
 --
---   plan, upright   the two that a prism is the product of; product puts them together again
+--   CHILDREN, FACES, CORNERS   "children .. 8; faces .. 5; corners .. 6"
+--   plan, upright        the two that a prism is the product of; product puts them together again
 --   prismTo L            prisms as a shape, highest level L
 --   prism                "highest level 21 for all three"
---   prismOf            the outcome that a PrismAnswer stands for
---   equalColumns         whether the five lent columns are equally long; Equal, that they are
---   element i            entry i of them
---   elements             all of them
+--   prismOf              the outcome that a PrismAnswer stands for
 --
--- Assumes nothing.
-use mathlib.Core.Path.{_≡_}
-use mathlib.Core.Bool.{Bool, not, cond, _&&_, _||_}
-use mathlib.Core.List.{List}
+-- Not here: several in lent columns (`Columns.antt`). Assumes nothing.
+use mathlib.Core.Bool.{not, cond, _&&_, _||_}
 use Prim.Native.Nat.{ℕ, _+_, _-_, _*_, _/_, _%_}
 use lib.Dec.{ltb, eqb}
-use lib.ListN.{length, getD}
-use Rattle.paper.specs.Outcome.{Outcome, accepted, refused, mapped, fault-when, rows}
+use Rattle.paper.specs.Outcome.{Outcome, accepted, refused, mapped, fault-when}
 use Rattle.tree.specs.Shape.{Shape}
-use Rattle.tree.specs.Anchors.{offGrid}
+use Rattle.tree.specs.Anchors.{HIGHEST, offGrid}
 use Rattle.line.specs.declared.Line.{Line}
 use Rattle.triangle.specs.declared.Triangle.{Triangle}
 use Rattle.line.specs.Elements as line
@@ -31,6 +25,15 @@ use Rattle.triangle.specs.Elements as triangle
 use Rattle.prism.specs.declared.Prism.{Prism}
 use Rattle.prism.specs.declared.PrismAnswer.{PrismAnswer}
 use Rattle.prism.specs.declared.PrismAnswer.the-variants.{Is, Refused}
+
+abbrev pub CHILDREN : ℕ
+CHILDREN = 8
+
+abbrev pub FACES : ℕ
+FACES = 5
+
+abbrev pub CORNERS : ℕ
+CORNERS = 6
 
 abbrev pub plan : Prism → Triangle
 plan e = record { x = e .x; y = e .y; level = e .level; kind = e .kind }
@@ -67,9 +70,9 @@ module _ (L : ℕ) where
   unfoldable pub prismTo : Shape Prism
   prismTo =
       record {
-        children = 8;
-        faces = 5;
-        corners = 6;
+        children = CHILDREN;
+        faces = FACES;
+        corners = CORNERS;
         highest = L;
         level = λ e. e .level;
         fault = fault;
@@ -84,26 +87,8 @@ module _ (L : ℕ) where
       }
 
 abbrev pub prism : Shape Prism
-prism = prismTo 21
+prism = prismTo HIGHEST
 
 abbrev pub prismOf : PrismAnswer → Outcome Prism
 prismOf (Is e) = accepted e
 prismOf (Refused number place) = refused number place
-
-abbrev pub equalColumns : List ℕ → List ℕ → List ℕ → List ℕ → List ℕ → Bool
-equalColumns levels xs ys zs kinds =
-    eqb (length levels) (length xs)
-    && (eqb (length levels) (length ys) && (eqb (length levels) (length zs) && eqb (length levels) (length kinds)))
-
-pub record Equal (levels xs ys zs kinds : List ℕ) : Type 0 where
-  pub with-xs : length levels ≡ length xs
-  pub with-ys : length levels ≡ length ys
-  pub with-zs : length levels ≡ length zs
-  pub with-kinds : length levels ≡ length kinds
-
-abbrev pub element : List ℕ → List ℕ → List ℕ → List ℕ → List ℕ → ℕ → Prism
-element levels xs ys zs kinds i =
-    record { x = getD xs i 0; y = getD ys i 0; z = getD zs i 0; level = getD levels i 0; kind = getD kinds i 0 }
-
-abbrev pub elements : List ℕ → List ℕ → List ℕ → List ℕ → List ℕ → List Prism
-elements levels xs ys zs kinds = rows (element levels xs ys zs kinds) 0 (length levels)

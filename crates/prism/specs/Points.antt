@@ -19,7 +19,7 @@ use Rattle.triangle.specs.Points.{Point}
 use Rattle.line.specs.Points as line
 use Rattle.triangle.specs.Points as triangle
 use Rattle.prism.specs.declared.Prism.{Prism}
-use Rattle.prism.specs.Elements.{plan, upright}
+use Rattle.prism.specs.Elements.{FACES, plan, upright}
 
 pub record Corner : Type 0 where
   pub plan : Point
@@ -54,4 +54,4 @@ faceCorners i =
     i []
 
 abbrev pub Definition27 : ℕ → Type 0
-Definition27 L = (e : Prism) (i : ℕ) → i < 5 → facePoints L e i ≡ map (corner L e) (faceCorners i)
+Definition27 L = (e : Prism) (i : ℕ) → i < FACES → facePoints L e i ≡ map (corner L e) (faceCorners i)

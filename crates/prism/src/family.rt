@@ -4,15 +4,17 @@ use paper::Fault;
 ghost use mathlib.Core.Path.{_≡_};
 ghost use Prim.Native.Nat.{_<_};
 ghost use lib.ListN.{length};
-ghost use Rattle.paper.specs.Outcome.{checks, passed};
+ghost use Rattle.paper.specs.Outcome.{checks};
 ghost use Rattle.paper.specs.Readings.{checksOf};
 ghost use Rattle.tree.specs.Words;
-ghost use Rattle.prism.specs.Elements.{prism, Equal, element, elements};
+ghost use Rattle.prism.specs.Elements.{prism};
+ghost use Rattle.prism.specs.Columns.{columns, element, elements};
+ghost use Rattle.prism.specs.Inner.{Equal, Checked};
 
 // An element of the columns.
-fn row(levels: &[u8], xs: &[u32], ys: &[u32], zs: &[u32], kinds: &[u8], i: usize) -> Prism
-    requires { ⌜ (i < length (now levels)) × Equal (now levels) (now xs) (now ys) (now zs) (now kinds) ⌝ }
-    ensures { λ r. ⌜ r ≡ element (now (levels .entry)) (now (xs .entry)) (now (ys .entry)) (now (zs .entry)) (now (kinds .entry)) i ⌝ }
+fn row(xs: &[u32], ys: &[u32], zs: &[u32], levels: &[u8], kinds: &[u8], i: usize) -> Prism
+    requires { ⌜ (i < length (now xs)) × Equal (columns (now xs) (now ys) (now zs) (now levels) (now kinds)) ⌝ }
+    ensures { λ r. ⌜ r ≡ element (columns (now (xs .entry)) (now (ys .entry)) (now (zs .entry)) (now (levels .entry)) (now (kinds .entry))) i ⌝ }
 {
     Prism {
         x: xs[i],
@@ -24,13 +26,13 @@ fn row(levels: &[u8], xs: &[u32], ys: &[u32], zs: &[u32], kinds: &[u8], i: usize
 }
 
 // The first element that fails a check.
-pub(crate) fn first_fault(levels: &[u8], xs: &[u32], ys: &[u32], zs: &[u32], kinds: &[u8]) -> Fault
-    requires { ⌜ Equal (now levels) (now xs) (now ys) (now zs) (now kinds) ⌝ }
-    ensures { λ r. ⌜ checksOf r ≡ checks (prism .fault) (elements (now (levels .entry)) (now (xs .entry)) (now (ys .entry)) (now (zs .entry)) (now (kinds .entry))) ⌝ }
+pub(crate) fn first_fault(xs: &[u32], ys: &[u32], zs: &[u32], levels: &[u8], kinds: &[u8]) -> Fault
+    requires { ⌜ Equal (columns (now xs) (now ys) (now zs) (now levels) (now kinds)) ⌝ }
+    ensures { λ r. ⌜ checksOf r ≡ checks (prism .fault) (elements (columns (now (xs .entry)) (now (ys .entry)) (now (zs .entry)) (now (levels .entry)) (now (kinds .entry)))) ⌝ }
 {
     let mut i = 0;
-    while i < levels.len() {
-        let fault = row(levels, xs, ys, zs, kinds, i).fault();
+    while i < xs.len() {
+        let fault = row(xs, ys, zs, levels, kinds, i).fault();
         if fault != 0 {
             return Fault {
                 number: fault,
@@ -47,23 +49,23 @@ pub(crate) fn first_fault(levels: &[u8], xs: &[u32], ys: &[u32], zs: &[u32], kin
 
 // Whether sound elements are a family: as many as a parent has children, and one after the other the children of the first
 // one's parent.
-pub(crate) fn are_siblings(levels: &[u8], xs: &[u32], ys: &[u32], zs: &[u32], kinds: &[u8]) -> bool
-    requires { ⌜ Equal (now levels) (now xs) (now ys) (now zs) (now kinds) × (checks (prism .fault) (elements (now levels) (now xs) (now ys) (now zs) (now kinds)) ≡ passed) ⌝ }
-    ensures { λ r. ⌜ r ≡ Words.family prism (elements (now (levels .entry)) (now (xs .entry)) (now (ys .entry)) (now (zs .entry)) (now (kinds .entry))) ⌝ }
+pub(crate) fn are_siblings(xs: &[u32], ys: &[u32], zs: &[u32], levels: &[u8], kinds: &[u8]) -> bool
+    requires { ⌜ Checked (columns (now xs) (now ys) (now zs) (now levels) (now kinds)) ⌝ }
+    ensures { λ r. ⌜ r ≡ Words.family prism (elements (columns (now (xs .entry)) (now (ys .entry)) (now (zs .entry)) (now (levels .entry)) (now (kinds .entry)))) ⌝ }
 {
-    if levels.len() != 8 {
+    if xs.len() != Prism::CHILDREN as usize {
         return false;
     }
-    let first = row(levels, xs, ys, zs, kinds, 0);
+    let first = row(xs, ys, zs, levels, kinds, 0);
     if first.level == 0 {
         return false;
     }
     let parent = first.up();
     let mut i = 0;
-    while i < 8 {
+    while i < Prism::CHILDREN as usize {
         if !parent
             .down(i as u8)
-            .equals(row(levels, xs, ys, zs, kinds, i)) {
+            .equals(row(xs, ys, zs, levels, kinds, i)) {
             return false;
         }
         i += 1;

@@ -3,14 +3,15 @@
 use paper::CompareAnswer;
 use paper::NumberAnswer;
 use paper::TruthAnswer;
+use tree::HIGHEST;
 ghost use mathlib.Core.Path.{_≡_};
 ghost use Prim.Native.Nat.{_<_};
 ghost use Rattle.paper.specs.Readings.{valueOf, truthOf, comparisonOf};
 ghost use Rattle.tree.specs.Calls;
-ghost use Rattle.prism.specs.Elements.{prism, prismOf, equalColumns, elements};
+ghost use Rattle.prism.specs.Elements.{prism, prismOf};
+ghost use Rattle.prism.specs.Columns.{columns, family};
 
 mod family;
-pub mod rows;
 mod work;
 
 #[repr(C)]
@@ -40,7 +41,7 @@ impl Prism {
     pub fn at(level: u8, position: u64) -> PrismAnswer
         ensures { λ r. ⌜ prismOf r ≡ Calls.at prism level position ⌝ }
     {
-        if 21 < level {
+        if HIGHEST < level {
             return PrismAnswer::Refused(1, 0);
         }
         if 1u64 << (3 * level) <= position {
@@ -82,7 +83,7 @@ impl Prism {
         if fault != 0 {
             return PrismAnswer::Refused(fault, 0);
         }
-        if 21 <= self.level {
+        if HIGHEST <= self.level {
             return PrismAnswer::Refused(7, 0);
         }
         if Self::CHILDREN <= number {
@@ -115,7 +116,7 @@ impl Prism {
         if fault != 0 {
             return PrismAnswer::Refused(fault, 0);
         }
-        if 21 < level {
+        if HIGHEST < level {
             return PrismAnswer::Refused(1, 0);
         }
         if level < self.level {
@@ -138,7 +139,7 @@ impl Prism {
         if fault != 0 {
             return PrismAnswer::Refused(fault, 0);
         }
-        if 21 < level {
+        if HIGHEST < level {
             return PrismAnswer::Refused(1, 0);
         }
         if level < self.level {
@@ -178,25 +179,25 @@ impl Prism {
 
     // Whether the elements of the columns are all children of one parent, in order. Refused: 11, then 1, 2, 3, 4 at each element's
     // index.
-    pub fn family(levels: &[u8], xs: &[u32], ys: &[u32], zs: &[u32], kinds: &[u8]) -> TruthAnswer
-        ensures { λ r. ⌜ truthOf r ≡ Calls.family prism (equalColumns (now (levels .entry)) (now (xs .entry)) (now (ys .entry)) (now (zs .entry)) (now (kinds .entry))) (elements (now (levels .entry)) (now (xs .entry)) (now (ys .entry)) (now (zs .entry)) (now (kinds .entry))) ⌝ }
+    pub fn family(xs: &[u32], ys: &[u32], zs: &[u32], levels: &[u8], kinds: &[u8]) -> TruthAnswer
+        ensures { λ r. ⌜ truthOf r ≡ family (columns (now (xs .entry)) (now (ys .entry)) (now (zs .entry)) (now (levels .entry)) (now (kinds .entry))) ⌝ }
     {
-        if levels.len() != xs.len() {
+        if xs.len() != ys.len() {
             return TruthAnswer::Refused(11, 0);
         }
-        if levels.len() != ys.len() {
+        if xs.len() != zs.len() {
             return TruthAnswer::Refused(11, 0);
         }
-        if levels.len() != zs.len() {
+        if xs.len() != levels.len() {
             return TruthAnswer::Refused(11, 0);
         }
-        if levels.len() != kinds.len() {
+        if xs.len() != kinds.len() {
             return TruthAnswer::Refused(11, 0);
         }
-        let fault = family::first_fault(levels, xs, ys, zs, kinds);
+        let fault = family::first_fault(xs, ys, zs, levels, kinds);
         if fault.number != 0 {
             return TruthAnswer::Refused(fault.number, fault.place);
         }
-        TruthAnswer::Is(family::are_siblings(levels, xs, ys, zs, kinds))
+        TruthAnswer::Is(family::are_siblings(xs, ys, zs, levels, kinds))
     }
 }

@@ -2,15 +2,16 @@
 // the triangle's and the line's own, side by side; the two loops over the levels and the step across a face go in one.
 use crate::Prism;
 use crate::PrismAnswer;
-use crate::rows;
 use line::Line;
 use line::LineAnswer;
+use tree::HIGHEST;
 use triangle::Triangle;
 use triangle::TriangleAnswer;
 ghost use mathlib.Core.Path.{_≡_};
 ghost use Prim.Native.Nat.{_^_, _≤_, _<_};
+ghost use Rattle.tree.specs.Anchors.{HIGHEST};
 ghost use Rattle.tree.specs.Words;
-ghost use Rattle.prism.specs.Elements.{prism, prismOf, plan, upright, product};
+ghost use Rattle.prism.specs.Elements.{CHILDREN, FACES, prism, prismOf, plan, upright, product};
 
 // No check fails.
 const SOUND: u8 = 0;
@@ -20,7 +21,7 @@ impl Prism {
     pub(crate) fn fault(self) -> u8
         ensures { λ r. ⌜ r ≡ prism .fault self ⌝ }
     {
-        if 21 < self.level {
+        if HIGHEST < self.level {
             return 1;
         }
         if tree::off_grid(self.level, self.x) {
@@ -94,7 +95,7 @@ impl Prism {
     }
 
     pub(crate) fn down(self, number: u8) -> Prism
-        requires { ⌜ (prism .fault self ≡ 0) × ((self .level < 21) × (number < 8)) ⌝ }
+        requires { ⌜ (prism .fault self ≡ 0) × ((self .level < HIGHEST) × (number < CHILDREN)) ⌝ }
         ensures { λ r. ⌜ r ≡ prism .child self number ⌝ }
     {
         let TriangleAnswer::Is(t) = self.plan().child(number % 4) else {
@@ -107,7 +108,7 @@ impl Prism {
     }
 
     pub(crate) fn bottom(self, level: u8) -> Prism
-        requires { ⌜ (prism .fault self ≡ 0) × ((self .level ≤ level) × (level ≤ 21)) ⌝ }
+        requires { ⌜ (prism .fault self ≡ 0) × ((self .level ≤ level) × (level ≤ HIGHEST)) ⌝ }
         ensures { λ r. ⌜ r ≡ Words.last prism self level ⌝ }
     {
         let TriangleAnswer::Is(t) = self.plan().last_descendant(level) else {
@@ -120,11 +121,11 @@ impl Prism {
     }
 
     pub(crate) fn across(self, face: u8) -> PrismAnswer
-        requires { ⌜ (prism .fault self ≡ 0) × (face < 5) ⌝ }
+        requires { ⌜ (prism .fault self ≡ 0) × (face < FACES) ⌝ }
         ensures { λ r. ⌜ prismOf r ≡ prism .neighbour self face ⌝ }
     {
         let h = tree::side(self.level);
-        let s = rows::side_row(self.kind, face);
+        let s = rows::prism_face_row(self.kind, face);
         let x = tree::moved(self.x, s.x, h);
         if x == tree::GONE {
             return PrismAnswer::Refused(10, 0);
@@ -156,7 +157,7 @@ impl Prism {
         ensures { λ r. ⌜ r ≡ Words.position prism self ⌝ }
     {
         let level = self.level;
-        let s = 21 - level;
+        let s = HIGHEST - level;
         let mut x = self.x >> s;
         let mut y = self.y >> s;
         let mut z = self.z >> s;
@@ -164,7 +165,7 @@ impl Prism {
         let mut sum = 0u64;
         let mut i = 0u8;
         while i < level {
-            let p = triangle::rows::place_of(x, y, kind);
+            let p = rows::slot_of(x, y, kind);
             sum += (4 * (z % 2) as u64 + p.number as u64) << (3 * i);
             x /= 2;
             y /= 2;
@@ -175,12 +176,12 @@ impl Prism {
         sum
     }
 
-    // The position of the first descendant of level 21.
+    // The position of the first descendant of the highest level.
     pub(crate) fn start(self) -> u64
         requires { ⌜ prism .fault self ≡ 0 ⌝ }
-        ensures { λ r. ⌜ r ≡ Words.position prism (Words.first prism self 21) ⌝ }
+        ensures { λ r. ⌜ r ≡ Words.position prism (Words.first prism self HIGHEST) ⌝ }
     {
-        self.rank() << (3 * (21 - self.level))
+        self.rank() << (3 * (HIGHEST - self.level))
     }
 }
 
@@ -199,7 +200,7 @@ fn product(t: Triangle, m: Line) -> Prism
 
 // The element at a position that the level has: down from the root, one digit a level, in units of the side.
 pub(crate) fn placed(level: u8, position: u64) -> Prism
-    requires { ⌜ (level ≤ 21) × (position < 8 ^ level) ⌝ }
+    requires { ⌜ (level ≤ HIGHEST) × (position < CHILDREN ^ level) ⌝ }
     ensures { λ r. ⌜ r ≡ Words.elementAt prism level position ⌝ }
 {
     let mut x = 0u32;
@@ -210,13 +211,13 @@ pub(crate) fn placed(level: u8, position: u64) -> Prism
     while 0 < left {
         left -= 1;
         let d = ((position >> (3 * left)) % 8) as u8;
-        let s = triangle::rows::child_row(kind, d % 4);
+        let s = rows::child_row(kind, d % 4);
         x = 2 * x + s.x as u32;
         y = 2 * y + s.y as u32;
         z = 2 * z + (d / 4) as u32;
         kind = s.kind;
     }
-    let s = 21 - level;
+    let s = HIGHEST - level;
     Prism {
         x: x << s,
         y: y << s,

@@ -9,8 +9,8 @@ use Rattle.line.specs.declared.Line.{Line}
 use Rattle.line.specs.Elements.{lineTo, line}
 use Rattle.triangle.specs.declared.Triangle.{Triangle}
 use Rattle.triangle.specs.Elements.{triangleTo, triangle}
-use Rattle.triangle.specs.declared.rows.Step.{Step}
-use Rattle.triangle.specs.Rows.{faceRow}
+use Rattle.rows.specs.declared.Step.{Step}
+use Rattle.rows.specs.Rows.{faceRow}
 use Rattle.prism.specs.declared.Prism.{Prism}
 use Rattle.prism.specs.Elements.{prismTo, prism, product, upright, plan}
 use Rattle.line.specs.Elements as lines

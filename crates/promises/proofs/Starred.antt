@@ -1,7 +1,7 @@
 -- The starred cases hold: each is computed. Assumes nothing.
 use mathlib.Core.Path.{refl}
 use Rattle.tree.specs.Words.{elementAt, positionAt}
-use Rattle.triangle.specs.Rows.{parentKind, numberOf}
+use Rattle.rows.specs.Rows.{parentKind, numberOf}
 use Rattle.prism.specs.Elements.{prismTo, neighbour}
 use Rattle.adaption.specs.Adaption.{every, joined}
 use Rattle.shares.specs.Shares.{total, largest}

@@ -124,8 +124,8 @@ module _ (P : ℕ) (ws : List ℕ) where
       one-share =
           record {
             which = last;
-            of-them = omega (arith, last-largest .within);
-            inside = last-inside;
+            below = omega (arith, last-largest .within);
+            holds = last-inside;
             only = only;
           }
         where

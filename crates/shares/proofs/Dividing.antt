@@ -10,7 +10,7 @@ use Rattle.paper.specs.Outcome.{rows}
 use Rattle.paper.specs.Memory.{written}
 use Rattle.paper.proofs.Front.{front-length, front-more}
 use Rattle.shares.specs.Shares.{total, boundary, boundaries}
-use Rattle.shares.specs.Turns.{Within, Stopped}
+use Rattle.shares.specs.Inner.{Within, Stopped}
 use Rattle.shares.proofs.Turns.{stopped-boundary, reached-on}
 
 -- the first s boundaries stand in the column, and the first count leaves are within the limit of share s; W is the whole weight

@@ -16,7 +16,7 @@ use Rattle.paper.proofs.Scan.{fault-none}
 use Rattle.leaves.proofs.Span.{more-mul}
 use Rattle.shares.specs.Shares.{total, boundary}
 use Rattle.shares.specs.Calls.{weightFault}
-use Rattle.shares.specs.Turns.{Within, Stopped}
+use Rattle.shares.specs.Inner.{Within, Stopped}
 use Rattle.shares.proofs.Largest.{largest-is}
 use Rattle.shares.proofs.Sums.{total-next, total-part, total-rises}
 

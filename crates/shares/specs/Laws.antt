@@ -15,6 +15,7 @@ use mathlib.Core.Bool.{Bool, true}
 use mathlib.Core.List.{List}
 use Prim.Native.Nat.{ℕ, _+_, _*_, _/_, _≤_, _<_}
 use lib.ListN.{length, getD, take, replicate}
+use Rattle.paper.specs.Exactly.{ExactlyOne}
 use Rattle.shares.specs.Shares.{total, boundary, boundaries, weight, heaviest}
 
 pub record Largest (m : ℕ) (test : ℕ → Bool) (j : ℕ) : Type 0 where
@@ -32,12 +33,8 @@ module _ (P : ℕ) (ws : List ℕ) where
     pub from : boundary P ws s ≤ j
     pub to : j < boundary P ws (s + 1)
 
-  -- exactly one: there is one, and any is that one
-  pub record OneShare (j : ℕ) : Type 0 where
-    pub which : ℕ
-    pub of-them : which < P
-    pub inside : InShare which j
-    pub only : (s : ℕ) → s < P → InShare s j → s ≡ which
+  abbrev pub OneShare : ℕ → Type 0
+  OneShare j = ExactlyOne P (λ s. InShare s j)
 
   pub record Fair : Type 0 where
     pub largest : (s : ℕ) → Boundary s (boundary P ws s)

@@ -1,4 +1,4 @@
 pub mod Shares
 pub mod Calls
 pub mod Laws
-pub mod Turns
+pub mod Inner

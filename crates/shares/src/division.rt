@@ -9,7 +9,7 @@ ghost use Rattle.paper.specs.Memory.{written};
 ghost use Rattle.paper.specs.Readings.{checksOf};
 ghost use Rattle.shares.specs.Shares as shares;
 ghost use Rattle.shares.specs.Calls.{weightFault};
-ghost use Rattle.shares.specs.Turns.{Within, Stopped};
+ghost use Rattle.shares.specs.Inner.{Within, Stopped};
 
 // How far a share goes: a leaf count, and the sum of the weights before it.
 struct Reach {

@@ -1,5 +1,8 @@
--- Document 01, "Elements": one coordinate of an anchor. L is the highest level, 2^L the edge of the root. Definitions only.
+-- Document 01, "What is built" and "Elements": the scale, and one coordinate of an anchor. L is the highest level, 2^L the edge of the
+-- root. Definitions only.
 --
+--   HIGHEST         "highest level 21 for all three"
+--   EDGE            "one reference scale, edge 2^21 = 2,097,152"
 --   side L l        "Level l has side h = 2^(21-l)"
 --   offGrid L l x   "An anchor is a multiple of h below 2^21 in each coordinate": x is not
 --   rounded L l x   the coordinate of the ancestor of level l: the multiple of its side at or below x
@@ -12,6 +15,12 @@
 use mathlib.Core.Bool.{Bool, not, _||_}
 use Prim.Native.Nat.{ℕ, _+_, _-_, _*_, _/_, _%_, _^_}
 use lib.Dec.{leb, ltb, eqb}
+
+abbrev pub HIGHEST : ℕ
+HIGHEST = 21
+
+abbrev pub EDGE : ℕ
+EDGE = 2 ^ HIGHEST
 
 abbrev pub side : ℕ → ℕ → ℕ
 side L l = 2 ^ (L - l)

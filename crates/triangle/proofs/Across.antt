@@ -10,7 +10,7 @@ use borrow.Author.Tests.{lt-ltb, le-ltb, le-leb, lt-leb, ltb-true, ltb-false, le
 use Rattle.paper.specs.Outcome.{accepted, refused, refuse-when}
 use Rattle.tree.specs.Anchors.{side, moved, offEdge}
 use Rattle.tree.proofs.Move.{moved-gone, moved-stays, moved-is}
-use Rattle.triangle.specs.declared.rows.Step.{Step}
+use Rattle.rows.specs.declared.Step.{Step}
 use Rattle.triangle.specs.declared.Triangle.{Triangle}
 use Rattle.triangle.specs.Elements.{insideRoot, acrossBy}
 use mir.Val.{boolByte}

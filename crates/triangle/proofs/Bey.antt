@@ -8,7 +8,7 @@ use Rattle.tree.proofs.Cases.{below-3}
 use Rattle.triangle.specs.declared.Triangle.{Triangle}
 use Rattle.triangle.specs.Elements.{triangleTo, child}
 use Rattle.triangle.specs.Points.{corner, Midpoint, ends, beyChild, beyNumber, Bey}
-use Rattle.triangle.proofs.Tables.{each-child}
+use Rattle.rows.proofs.Tables.{each-child}
 use Rattle.triangle.proofs.Laws.{known}
 
 module _ (L l x y : ℕ) (room : l < L) where

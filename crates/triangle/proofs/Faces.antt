@@ -16,12 +16,12 @@ use Rattle.tree.proofs.Anchor.{side-pos, grid-lt}
 use Rattle.tree.proofs.Cases.{below-2}
 use Rattle.tree.specs.Laws.{Across, Faces}
 use Rattle.tree.proofs.Faces.{either-way, when-accepted, when-led, move-far, move-reached, move-back, move-grid}
-use Rattle.triangle.specs.declared.rows.Step.{Step}
+use Rattle.rows.specs.declared.Step.{Step}
 use Rattle.triangle.specs.declared.Triangle.{Triangle}
-use Rattle.triangle.specs.Rows.{step, faceRow}
+use Rattle.rows.specs.Rows.{step, faceRow}
 use Rattle.triangle.specs.Elements.{triangleTo, insideRoot, acrossBy, neighbour}
 use Rattle.triangle.specs.Points.{Point, point, facePoints, faceAcross}
-use Rattle.triangle.proofs.Tables.{each-face, faceRow-small}
+use Rattle.rows.proofs.Tables.{each-face, faceRow-small}
 use Rattle.triangle.proofs.Laws.{Known, known, sound, triangle-path}
 
 -- ---- the face rows

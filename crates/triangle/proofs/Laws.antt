@@ -11,11 +11,11 @@ use Rattle.paper.proofs.Tests.{no-fault, or-none}
 use Rattle.tree.specs.Anchors.{side, offGrid, rounded, bitAt}
 use Rattle.tree.specs.Laws.{Lawful}
 use Rattle.tree.proofs.Anchor.{side-pos, grid-zero, zero-grid, grid-units, units-child, units-rounded, child-grid, child-rounded, child-bit, parent-grid, parent-split, bit-lt}
-use Rattle.triangle.specs.declared.rows.Step.{Step}
+use Rattle.rows.specs.declared.Step.{Step}
 use Rattle.triangle.specs.declared.Triangle.{Triangle}
-use Rattle.triangle.specs.Rows.{step, childRow, parentKind, numberOf}
+use Rattle.rows.specs.Rows.{step, childRow, parentKind, numberOf}
 use Rattle.triangle.specs.Elements.{triangleTo, fault, insideRoot, stepTo, child, parent}
-use Rattle.triangle.proofs.Tables.{childRow-small, parentKind-child, numberOf-child, childRow-place, parentKind-lt, numberOf-lt, child-inside, parent-inside}
+use Rattle.rows.proofs.Tables.{childRow-small, parentKind-child, numberOf-child, childRow-slot, parentKind-lt, numberOf-lt, child-inside, parent-inside}
 
 pub triangle-path : (e f : Triangle) → e .x ≡ f .x → e .y ≡ f .y → e .level ≡ f .level → e .kind ≡ f .kind → e ≡ f
 triangle-path e f p q r s = λ i. record { x = p i; y = q i; level = r i; kind = s i }
@@ -148,7 +148,7 @@ module _ (L : ℕ) where
 
     child-parent-at : child L (above l x y t) (numberOf (bitsAt l x y t)) ≡ record { x = x; y = y; level = suc l; kind = t }
     child-parent-at =
-        let here = childRow-place (bitAt L (suc l) x) (bitAt L (suc l) y) t (bit-lt L (suc l) x) (bit-lt L (suc l) y) (k .typed) in
+        let here = childRow-slot (bitAt L (suc l) x) (bitAt L (suc l) y) t (bit-lt L (suc l) x) (bit-lt L (suc l) y) (k .typed) in
         triangle-path _ _
         (ap (λ (s : Step). rounded L l x + s .x * side L (suc l)) here ∙ back-x)
         (ap (λ (s : Step). rounded L l y + s .y * side L (suc l)) here ∙ back-y)

@@ -1,4 +1,3 @@
-pub mod Tables
 pub mod Laws
 pub mod Units
 pub mod Across

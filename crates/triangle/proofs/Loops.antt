@@ -10,12 +10,12 @@ use Rattle.tree.specs.Anchors.{side}
 use Rattle.tree.specs.Words.{elementAt, positionAt, position}
 use Rattle.tree.proofs.Anchor.{side-edge}
 use Rattle.tree.proofs.Walk.{reached-start, reached-step, reached-end, climbed-start, climbed-step, climbed-end, sum-below}
-use Rattle.triangle.specs.declared.rows.Step.{Step}
-use Rattle.triangle.specs.declared.rows.Place.{Place}
+use Rattle.rows.specs.declared.Step.{Step}
+use Rattle.rows.specs.declared.Slot.{Slot}
 use Rattle.triangle.specs.declared.Triangle.{Triangle}
-use Rattle.triangle.specs.Rows.{step, childRow, parentKind, numberOf}
+use Rattle.rows.specs.Rows.{step, childRow, slotOf, parentKind, numberOf}
 use Rattle.triangle.specs.Elements.{triangle, triangleTo}
-use Rattle.triangle.proofs.Tables.{childRow-small, parentKind-lt, numberOf-lt}
+use Rattle.rows.proofs.Tables.{childRow-small, parentKind-lt, numberOf-lt}
 use Rattle.triangle.proofs.Laws.{triangle-path, Known}
 use Rattle.triangle.proofs.Units.{unit, unit-self, unit-child, unit-parent, unit-number}
 
@@ -107,29 +107,35 @@ climb-start l x y t typed =
           ∙ ap (λ (m : ℕ). 0 + 2 ^ (2 * 0) * positionAt triangle (l - 0) (unit 21 m x y t)) all;
     }
 
-module _ (P l sum i x y t : ℕ) (r : Climbed P l sum i x y t) (shallow : l ≤ 21) (place : Place)
-    (kind-is : place .kind ≡ parentKind (step (x % 2) (y % 2) (t % 2))) (number-is : place .number ≡ numberOf (step (x % 2) (y % 2) (t % 2))) where
+module _ (P l sum i x y t : ℕ) (r : Climbed P l sum i x y t) (shallow : l ≤ 21) (slot : Slot)
+    (read : slot ≡ slotOf (step (x % 2) (y % 2) (t % 2))) where
+  kind-is : slot .kind ≡ parentKind (step (x % 2) (y % 2) (t % 2))
+  kind-is = ap (λ (s : Slot). s .kind) read
+
+  number-is : slot .number ≡ numberOf (step (x % 2) (y % 2) (t % 2))
+  number-is = ap (λ (s : Slot). s .number) read
+
   -- the type is 0 or 1, so the remainder is the type
   plain : step (x % 2) (y % 2) (t % 2) ≡ step (x % 2) (y % 2) t
   plain = ap (step (x % 2) (y % 2)) (mod-eq-of-lt (r .typed))
 
-  pub climb-digit : place .number < 4
+  pub climb-digit : slot .number < 4
   climb-digit = rw (number-is, plain) (numberOf-lt (x % 2) (y % 2) t (mod-lt x (lit< tt)) (mod-lt y (lit< tt)) (r .typed))
 
-  pub climb-again : i < l → Climbed P l (sum + place .number * 2 ^ (2 * i)) (i + 1) (x / 2) (y / 2) (place .kind)
+  pub climb-again : i < l → Climbed P l (sum + slot .number * 2 ^ (2 * i)) (i + 1) (x / 2) (y / 2) (slot .kind)
   unfolding triangleTo
   climb-again more =
       let up : l - i ≡ suc (l - (i + 1)) = omega arith in
       let e = unit 21 (l - i) x y t in
       let e′ = unit 21 (suc (l - (i + 1))) x y t in
       let same : e ≡ e′ = ap (λ (k : ℕ). unit 21 k x y t) up in
-      let digit : numberOf (step (x % 2) (y % 2) t) ≡ place .number = sym (number-is ∙ ap numberOf plain) in
-      let kind : parentKind (step (x % 2) (y % 2) t) ≡ place .kind = sym (kind-is ∙ ap parentKind plain) in
+      let digit : numberOf (step (x % 2) (y % 2) t) ≡ slot .number = sym (number-is ∙ ap numberOf plain) in
+      let kind : parentKind (step (x % 2) (y % 2) t) ≡ slot .kind = sym (kind-is ∙ ap parentKind plain) in
       let number = ap (triangle .number) same ∙ unit-number 21 (suc (l - (i + 1))) x y t ∙ digit in
       let parent = ap (triangle .parent) same ∙ unit-parent 21 (l - (i + 1)) x y t (omega arith) ∙ ap (unit 21 (l - (i + 1)) (x / 2) (y / 2)) kind in
       record {
         passed = omega arith;
-        low = subst (λ (k : ℕ). sum + place .number * 2 ^ (2 * i) < 2 ^ (2 * k)) (sym (add-one i)) (sum-below 2 sum (place .number) i (r .low) climb-digit);
+        low = subst (λ (k : ℕ). sum + slot .number * 2 ^ (2 * i) < 2 ^ (2 * k)) (sym (add-one i)) (sum-below 2 sum (slot .number) i (r .low) climb-digit);
         typed = subst (λ (k : ℕ). k < 2) kind (parentKind-lt (x % 2) (y % 2) t (mod-lt x (lit< tt)) (mod-lt y (lit< tt)) (r .typed));
         left =
             climbed-step triangle 2 binary l P sum i e more (r .left)

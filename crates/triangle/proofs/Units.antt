@@ -7,9 +7,9 @@ use Rattle.tree.specs.Anchors.{side, rounded}
 use Rattle.tree.specs.Words.{descend, first, last}
 use Rattle.tree.proofs.Anchor.{side-suc, side-le, units-child, units-rounded, units-bit, grid-units}
 use Rattle.tree.proofs.Cases.{below-2}
-use Rattle.triangle.specs.declared.rows.Step.{Step}
+use Rattle.rows.specs.declared.Step.{Step}
 use Rattle.triangle.specs.declared.Triangle.{Triangle}
-use Rattle.triangle.specs.Rows.{step, childRow, parentKind, numberOf}
+use Rattle.rows.specs.Rows.{step, childRow, parentKind, numberOf}
 use Rattle.triangle.specs.Elements.{triangleTo, stepTo, child, parent, number}
 use Rattle.triangle.proofs.Laws.{triangle-path, Known}
 

@@ -1,32 +1,34 @@
 -- Document 01, "Elements": triangles. L is the highest level; the field `kind` is the type. Definitions only.
 --
 --   "The root is type 0. Inside the root means y <= x for type 0 and y < x for type 1"
---   "children .. 4 ..; faces .. 3 ..; corners .. 3"
 --   Faults: 1 level above the highest, 2 anchor 2^21 or more, or no multiple of h, 3 type above 1, 4 outside the root
 --
+--   CHILDREN, FACES, CORNERS   "children .. 4 ..; faces .. 3 ..; corners .. 3"
 --   triangleTo L   triangles as a shape, highest level L
 --   triangle       "highest level 21 for all three"
---   triangleOf      the outcome that a TriangleAnswer stands for
---   equalColumns   whether the four lent columns are equally long
---   Equal          that they are
---   element i      entry i of them
---   elements       all of them
+--   triangleOf     the outcome that a TriangleAnswer stands for
 --
--- Assumes nothing.
-use mathlib.Core.Path.{_≡_}
+-- Not here: several in lent columns (`Columns.antt`). Assumes nothing.
 use mathlib.Core.Bool.{Bool, not, _&&_, _||_}
-use mathlib.Core.List.{List}
 use Prim.Native.Nat.{ℕ, zero, suc, _+_, _-_, _*_}
 use lib.Dec.{leb, ltb, eqb}
-use lib.ListN.{length, getD}
-use Rattle.paper.specs.Outcome.{Outcome, accepted, refused, refuse-when, fault-when, rows}
+use Rattle.paper.specs.Outcome.{Outcome, accepted, refused, refuse-when, fault-when}
 use Rattle.tree.specs.Shape.{Shape}
-use Rattle.tree.specs.Anchors.{side, offGrid, rounded, bitAt, moved, offEdge}
-use Rattle.triangle.specs.declared.rows.Step.{Step}
+use Rattle.tree.specs.Anchors.{HIGHEST, side, offGrid, rounded, bitAt, moved, offEdge}
+use Rattle.rows.specs.declared.Step.{Step}
 use Rattle.triangle.specs.declared.Triangle.{Triangle}
 use Rattle.triangle.specs.declared.TriangleAnswer.{TriangleAnswer}
 use Rattle.triangle.specs.declared.TriangleAnswer.the-variants.{Is, Refused}
-use Rattle.triangle.specs.Rows.{step, childRow, parentKind, numberOf, faceRow}
+use Rattle.rows.specs.Rows.{step, childRow, parentKind, numberOf, faceRow}
+
+abbrev pub CHILDREN : ℕ
+CHILDREN = 4
+
+abbrev pub FACES : ℕ
+FACES = 3
+
+abbrev pub CORNERS : ℕ
+CORNERS = 3
 
 -- by type: x and y of an anchor
 abbrev pub insideRoot : ℕ → ℕ → ℕ → Bool
@@ -85,9 +87,9 @@ module _ (L : ℕ) where
   unfoldable pub triangleTo : Shape Triangle
   triangleTo =
       record {
-        children = 4;
-        faces = 3;
-        corners = 3;
+        children = CHILDREN;
+        faces = FACES;
+        corners = CORNERS;
         highest = L;
         level = λ e. e .level;
         fault = fault;
@@ -100,24 +102,8 @@ module _ (L : ℕ) where
       }
 
 abbrev pub triangle : Shape Triangle
-triangle = triangleTo 21
+triangle = triangleTo HIGHEST
 
 abbrev pub triangleOf : TriangleAnswer → Outcome Triangle
 triangleOf (Is e) = accepted e
 triangleOf (Refused number place) = refused number place
-
-abbrev pub equalColumns : List ℕ → List ℕ → List ℕ → List ℕ → Bool
-equalColumns levels xs ys kinds =
-    eqb (length levels) (length xs) && (eqb (length levels) (length ys) && eqb (length levels) (length kinds))
-
--- the same as facts
-pub record Equal (levels xs ys kinds : List ℕ) : Type 0 where
-  pub with-xs : length levels ≡ length xs
-  pub with-ys : length levels ≡ length ys
-  pub with-kinds : length levels ≡ length kinds
-
-abbrev pub element : List ℕ → List ℕ → List ℕ → List ℕ → ℕ → Triangle
-element levels xs ys kinds i = record { x = getD xs i 0; y = getD ys i 0; level = getD levels i 0; kind = getD kinds i 0 }
-
-abbrev pub elements : List ℕ → List ℕ → List ℕ → List ℕ → List Triangle
-elements levels xs ys kinds = rows (element levels xs ys kinds) 0 (length levels)

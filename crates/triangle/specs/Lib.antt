@@ -1,3 +1,4 @@
-pub mod Rows
 pub mod Elements
+pub mod Columns
+pub mod Inner
 pub mod Points

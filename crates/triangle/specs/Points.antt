@@ -19,7 +19,7 @@ use lib.ListN.{getD}
 use Rattle.tree.specs.Anchors.{side}
 use Rattle.tree.specs.Laws.{Sound}
 use Rattle.triangle.specs.declared.Triangle.{Triangle}
-use Rattle.triangle.specs.Elements.{triangleTo, child}
+use Rattle.triangle.specs.Elements.{CHILDREN, CORNERS, triangleTo, child}
 
 pub record Point : Type 0 where
   pub x : ℕ
@@ -71,6 +71,6 @@ beyNumber t i = getD (getD ((0 ∷ 1 ∷ 3 ∷ 2 ∷ []) ∷ (0 ∷ 3 ∷ 1 ∷ 
 
 -- the children are Bey's: corner j of child i is the midpoint that definition 3 names
 pub record Bey (L : ℕ) : Type 0 where
-  pub midpoints : (e : Triangle) (i j : ℕ) → Sound (triangleTo L) e → e .level < L → i < 4 → j < 3
+  pub midpoints : (e : Triangle) (i j : ℕ) → Sound (triangleTo L) e → e .level < L → i < CHILDREN → j < CORNERS
       → let named = getD (beyChild (beyNumber (e .kind) i)) j (ends 0 0) in
       Midpoint (corner L (child L e i) j) (corner L e (named .from)) (corner L e (named .to))

@@ -4,15 +4,17 @@ use paper::Fault;
 ghost use mathlib.Core.Path.{_≡_};
 ghost use Prim.Native.Nat.{_<_};
 ghost use lib.ListN.{length};
-ghost use Rattle.paper.specs.Outcome.{checks, passed};
+ghost use Rattle.paper.specs.Outcome.{checks};
 ghost use Rattle.paper.specs.Readings.{checksOf};
 ghost use Rattle.tree.specs.Words;
-ghost use Rattle.triangle.specs.Elements.{triangle, Equal, element, elements};
+ghost use Rattle.triangle.specs.Elements.{triangle};
+ghost use Rattle.triangle.specs.Columns.{columns, element, elements};
+ghost use Rattle.triangle.specs.Inner.{Equal, Checked};
 
 // An element of the columns.
-fn row(levels: &[u8], xs: &[u32], ys: &[u32], kinds: &[u8], i: usize) -> Triangle
-    requires { ⌜ (i < length (now levels)) × Equal (now levels) (now xs) (now ys) (now kinds) ⌝ }
-    ensures { λ r. ⌜ r ≡ element (now (levels .entry)) (now (xs .entry)) (now (ys .entry)) (now (kinds .entry)) i ⌝ }
+fn row(xs: &[u32], ys: &[u32], levels: &[u8], kinds: &[u8], i: usize) -> Triangle
+    requires { ⌜ (i < length (now xs)) × Equal (columns (now xs) (now ys) (now levels) (now kinds)) ⌝ }
+    ensures { λ r. ⌜ r ≡ element (columns (now (xs .entry)) (now (ys .entry)) (now (levels .entry)) (now (kinds .entry))) i ⌝ }
 {
     Triangle {
         x: xs[i],
@@ -23,13 +25,13 @@ fn row(levels: &[u8], xs: &[u32], ys: &[u32], kinds: &[u8], i: usize) -> Triangl
 }
 
 // The first element that fails a check.
-pub(crate) fn first_fault(levels: &[u8], xs: &[u32], ys: &[u32], kinds: &[u8]) -> Fault
-    requires { ⌜ Equal (now levels) (now xs) (now ys) (now kinds) ⌝ }
-    ensures { λ r. ⌜ checksOf r ≡ checks (triangle .fault) (elements (now (levels .entry)) (now (xs .entry)) (now (ys .entry)) (now (kinds .entry))) ⌝ }
+pub(crate) fn first_fault(xs: &[u32], ys: &[u32], levels: &[u8], kinds: &[u8]) -> Fault
+    requires { ⌜ Equal (columns (now xs) (now ys) (now levels) (now kinds)) ⌝ }
+    ensures { λ r. ⌜ checksOf r ≡ checks (triangle .fault) (elements (columns (now (xs .entry)) (now (ys .entry)) (now (levels .entry)) (now (kinds .entry)))) ⌝ }
 {
     let mut i = 0;
-    while i < levels.len() {
-        let fault = row(levels, xs, ys, kinds, i).fault();
+    while i < xs.len() {
+        let fault = row(xs, ys, levels, kinds, i).fault();
         if fault != 0 {
             return Fault {
                 number: fault,
@@ -46,21 +48,21 @@ pub(crate) fn first_fault(levels: &[u8], xs: &[u32], ys: &[u32], kinds: &[u8]) -
 
 // Whether sound elements are a family: as many as a parent has children, and one after the other the children of the first
 // one's parent.
-pub(crate) fn are_siblings(levels: &[u8], xs: &[u32], ys: &[u32], kinds: &[u8]) -> bool
-    requires { ⌜ Equal (now levels) (now xs) (now ys) (now kinds) × (checks (triangle .fault) (elements (now levels) (now xs) (now ys) (now kinds)) ≡ passed) ⌝ }
-    ensures { λ r. ⌜ r ≡ Words.family triangle (elements (now (levels .entry)) (now (xs .entry)) (now (ys .entry)) (now (kinds .entry))) ⌝ }
+pub(crate) fn are_siblings(xs: &[u32], ys: &[u32], levels: &[u8], kinds: &[u8]) -> bool
+    requires { ⌜ Checked (columns (now xs) (now ys) (now levels) (now kinds)) ⌝ }
+    ensures { λ r. ⌜ r ≡ Words.family triangle (elements (columns (now (xs .entry)) (now (ys .entry)) (now (levels .entry)) (now (kinds .entry)))) ⌝ }
 {
-    if levels.len() != 4 {
+    if xs.len() != Triangle::CHILDREN as usize {
         return false;
     }
-    let first = row(levels, xs, ys, kinds, 0);
+    let first = row(xs, ys, levels, kinds, 0);
     if first.level == 0 {
         return false;
     }
     let parent = first.up();
     let mut i = 0;
-    while i < 4 {
-        if !parent.down(i as u8).equals(row(levels, xs, ys, kinds, i)) {
+    while i < Triangle::CHILDREN as usize {
+        if !parent.down(i as u8).equals(row(xs, ys, levels, kinds, i)) {
             return false;
         }
         i += 1;

@@ -3,15 +3,16 @@
 use paper::CompareAnswer;
 use paper::NumberAnswer;
 use paper::TruthAnswer;
+use tree::HIGHEST;
 ghost use mathlib.Core.Path.{_≡_};
 ghost use mathlib.Core.Bool.{not};
 ghost use Prim.Native.Nat.{_<_};
 ghost use Rattle.paper.specs.Readings.{valueOf, truthOf, comparisonOf};
 ghost use Rattle.tree.specs.Calls;
-ghost use Rattle.triangle.specs.Elements.{triangle, triangleOf, equalColumns, elements, insideRoot};
+ghost use Rattle.triangle.specs.Elements.{triangle, triangleOf, insideRoot};
+ghost use Rattle.triangle.specs.Columns.{columns, family};
 
 mod family;
-pub mod rows;
 mod work;
 
 #[repr(C)]
@@ -47,7 +48,7 @@ impl Triangle {
     pub fn at(level: u8, position: u64) -> TriangleAnswer
         ensures { λ r. ⌜ triangleOf r ≡ Calls.at triangle level position ⌝ }
     {
-        if 21 < level {
+        if HIGHEST < level {
             return TriangleAnswer::Refused(1, 0);
         }
         if 1u64 << (2 * level) <= position {
@@ -89,7 +90,7 @@ impl Triangle {
         if fault != 0 {
             return TriangleAnswer::Refused(fault, 0);
         }
-        if 21 <= self.level {
+        if HIGHEST <= self.level {
             return TriangleAnswer::Refused(7, 0);
         }
         if Self::CHILDREN <= number {
@@ -122,7 +123,7 @@ impl Triangle {
         if fault != 0 {
             return TriangleAnswer::Refused(fault, 0);
         }
-        if 21 < level {
+        if HIGHEST < level {
             return TriangleAnswer::Refused(1, 0);
         }
         if level < self.level {
@@ -144,7 +145,7 @@ impl Triangle {
         if fault != 0 {
             return TriangleAnswer::Refused(fault, 0);
         }
-        if 21 < level {
+        if HIGHEST < level {
             return TriangleAnswer::Refused(1, 0);
         }
         if level < self.level {
@@ -184,22 +185,22 @@ impl Triangle {
 
     // Whether the elements of the columns are all children of one parent, in order. Refused: 11, then 1, 2, 3, 4 at each element's
     // index.
-    pub fn family(levels: &[u8], xs: &[u32], ys: &[u32], kinds: &[u8]) -> TruthAnswer
-        ensures { λ r. ⌜ truthOf r ≡ Calls.family triangle (equalColumns (now (levels .entry)) (now (xs .entry)) (now (ys .entry)) (now (kinds .entry))) (elements (now (levels .entry)) (now (xs .entry)) (now (ys .entry)) (now (kinds .entry))) ⌝ }
+    pub fn family(xs: &[u32], ys: &[u32], levels: &[u8], kinds: &[u8]) -> TruthAnswer
+        ensures { λ r. ⌜ truthOf r ≡ family (columns (now (xs .entry)) (now (ys .entry)) (now (levels .entry)) (now (kinds .entry))) ⌝ }
     {
-        if levels.len() != xs.len() {
+        if xs.len() != ys.len() {
             return TruthAnswer::Refused(11, 0);
         }
-        if levels.len() != ys.len() {
+        if xs.len() != levels.len() {
             return TruthAnswer::Refused(11, 0);
         }
-        if levels.len() != kinds.len() {
+        if xs.len() != kinds.len() {
             return TruthAnswer::Refused(11, 0);
         }
-        let fault = family::first_fault(levels, xs, ys, kinds);
+        let fault = family::first_fault(xs, ys, levels, kinds);
         if fault.number != 0 {
             return TruthAnswer::Refused(fault.number, fault.place);
         }
-        TruthAnswer::Is(family::are_siblings(levels, xs, ys, kinds))
+        TruthAnswer::Is(family::are_siblings(xs, ys, levels, kinds))
     }
 }

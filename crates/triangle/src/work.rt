@@ -2,11 +2,12 @@
 use crate::Triangle;
 use crate::TriangleAnswer;
 use crate::outside;
-use crate::rows;
+use tree::HIGHEST;
 ghost use mathlib.Core.Path.{_≡_};
 ghost use Prim.Native.Nat.{_^_, _≤_, _<_};
+ghost use Rattle.tree.specs.Anchors.{HIGHEST};
 ghost use Rattle.tree.specs.Words;
-ghost use Rattle.triangle.specs.Elements.{triangle, triangleOf};
+ghost use Rattle.triangle.specs.Elements.{CHILDREN, FACES, triangle, triangleOf};
 
 // No check fails.
 const SOUND: u8 = 0;
@@ -16,7 +17,7 @@ impl Triangle {
     pub(crate) fn fault(self) -> u8
         ensures { λ r. ⌜ r ≡ triangle .fault self ⌝ }
     {
-        if 21 < self.level {
+        if HIGHEST < self.level {
             return 1;
         }
         if tree::off_grid(self.level, self.x) {
@@ -55,14 +56,14 @@ impl Triangle {
         ensures { λ r. ⌜ r ≡ Words.position triangle self ⌝ }
     {
         let level = self.level;
-        let s = 21 - level;
+        let s = HIGHEST - level;
         let mut x = self.x >> s;
         let mut y = self.y >> s;
         let mut kind = self.kind;
         let mut sum = 0u64;
         let mut i = 0u8;
         while i < level {
-            let p = rows::place_of(x, y, kind);
+            let p = rows::slot_of(x, y, kind);
             sum += (p.number as u64) << (2 * i);
             x /= 2;
             y /= 2;
@@ -72,20 +73,20 @@ impl Triangle {
         sum
     }
 
-    // The position of the first descendant of level 21.
+    // The position of the first descendant of the highest level.
     pub(crate) fn start(self) -> u64
         requires { ⌜ triangle .fault self ≡ 0 ⌝ }
-        ensures { λ r. ⌜ r ≡ Words.position triangle (Words.first triangle self 21) ⌝ }
+        ensures { λ r. ⌜ r ≡ Words.position triangle (Words.first triangle self HIGHEST) ⌝ }
     {
-        self.rank() << (2 * (21 - self.level))
+        self.rank() << (2 * (HIGHEST - self.level))
     }
 
     pub(crate) fn up(self) -> Triangle
-        requires { ⌜ (0 < self .level) × ((self .level ≤ 21) × (self .kind < 2)) ⌝ }
+        requires { ⌜ (0 < self .level) × ((self .level ≤ HIGHEST) × (self .kind < 2)) ⌝ }
         ensures { λ r. ⌜ r ≡ triangle .parent self ⌝ }
     {
         let level = self.level - 1;
-        let p = rows::place_of(
+        let p = rows::slot_of(
             tree::bit(self.level, self.x),
             tree::bit(self.level, self.y),
             self.kind,
@@ -99,7 +100,7 @@ impl Triangle {
     }
 
     pub(crate) fn down(self, number: u8) -> Triangle
-        requires { ⌜ (triangle .fault self ≡ 0) × ((self .level < 21) × (number < 4)) ⌝ }
+        requires { ⌜ (triangle .fault self ≡ 0) × ((self .level < HIGHEST) × (number < CHILDREN)) ⌝ }
         ensures { λ r. ⌜ r ≡ triangle .child self number ⌝ }
     {
         let level = self.level + 1;
@@ -114,7 +115,7 @@ impl Triangle {
     }
 
     pub(crate) fn bottom(self, level: u8) -> Triangle
-        requires { ⌜ (triangle .fault self ≡ 0) × ((self .level ≤ level) × (level ≤ 21)) ⌝ }
+        requires { ⌜ (triangle .fault self ≡ 0) × ((self .level ≤ level) × (level ≤ HIGHEST)) ⌝ }
         ensures { λ r. ⌜ r ≡ Words.last triangle self level ⌝ }
     {
         let d = tree::side(self.level) - tree::side(level);
@@ -127,7 +128,7 @@ impl Triangle {
     }
 
     pub(crate) fn across(self, face: u8) -> TriangleAnswer
-        requires { ⌜ (triangle .fault self ≡ 0) × (face < 3) ⌝ }
+        requires { ⌜ (triangle .fault self ≡ 0) × (face < FACES) ⌝ }
         ensures { λ r. ⌜ triangleOf r ≡ triangle .neighbour self face ⌝ }
     {
         let h = tree::side(self.level);
@@ -155,7 +156,7 @@ impl Triangle {
 
 // The element at a position that the level has: down from the root, one digit a level, in units of the side.
 pub(crate) fn placed(level: u8, position: u64) -> Triangle
-    requires { ⌜ (level ≤ 21) × (position < 4 ^ level) ⌝ }
+    requires { ⌜ (level ≤ HIGHEST) × (position < CHILDREN ^ level) ⌝ }
     ensures { λ r. ⌜ r ≡ Words.elementAt triangle level position ⌝ }
 {
     let mut x = 0u32;
@@ -169,7 +170,7 @@ pub(crate) fn placed(level: u8, position: u64) -> Triangle
         y = 2 * y + s.y as u32;
         kind = s.kind;
     }
-    let s = 21 - level;
+    let s = HIGHEST - level;
     Triangle {
         x: x << s,
         y: y << s,

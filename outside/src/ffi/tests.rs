@@ -100,7 +100,7 @@ raw_answers!(
 #[test]
 fn families() {
     let (level, x) = ([22], [0]);
-    let family = |levels, xs| unsafe { gw_line_family(level.as_ptr(), levels, x.as_ptr(), xs) };
+    let family = |levels, xs| unsafe { gw_line_family(x.as_ptr(), xs, level.as_ptr(), levels) };
     assert_eq!(family(0, 0), Answer { refusal: 0, value: 0 });
     assert_eq!(family(1, 0), Answer { refusal: 11, value: 0 });
     assert_eq!(family(1, 1), Answer { refusal: 1, value: 0 });

@@ -136,7 +136,7 @@ pub extern "C" fn compare(e: Line, f: Line) -> Answer<i32> {
 
 /// 1 if the lines in the columns are the children of one parent, in order, else 0.
 #[inline(never)]
-pub fn family(level: &[u8], x: &[u32]) -> Answer<u64> {
+pub fn family(x: &[u32], level: &[u8]) -> Answer<u64> {
     if x.len() != level.len() {
         return Answer::refused(11);
     }

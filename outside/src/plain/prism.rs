@@ -212,7 +212,7 @@ pub extern "C" fn compare(e: Prism, f: Prism) -> Answer<i32> {
 
 /// 1 if the prisms in the columns are the children of one parent, in order, else 0.
 #[inline(never)]
-pub fn family(level: &[u8], x: &[u32], y: &[u32], z: &[u32], kind: &[u8]) -> Answer<u64> {
+pub fn family(x: &[u32], y: &[u32], z: &[u32], level: &[u8], kind: &[u8]) -> Answer<u64> {
     let count = level.len();
     if x.len() != count || y.len() != count || z.len() != count || kind.len() != count {
         return Answer::refused(11);

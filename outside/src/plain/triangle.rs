@@ -200,7 +200,7 @@ pub extern "C" fn compare(e: Triangle, f: Triangle) -> Answer<i32> {
 
 /// 1 if the triangles in the columns are the children of one parent, in order, else 0.
 #[inline(never)]
-pub fn family(level: &[u8], x: &[u32], y: &[u32], kind: &[u8]) -> Answer<u64> {
+pub fn family(x: &[u32], y: &[u32], level: &[u8], kind: &[u8]) -> Answer<u64> {
     let count = level.len();
     if x.len() != count || y.len() != count || kind.len() != count {
         return Answer::refused(11);

@@ -155,7 +155,7 @@ macro_rules! shape {
 }
 
 shape!(Line, line, "line", [0, 1], |e| [e.level as u32, e.x, 0, 0, 0], |f| Line { x: f[1], level: f[0] as u8 }, |c| (
-    &c.level, &c.x
+    &c.x, &c.level
 ));
 shape!(
     Triangle,
@@ -164,7 +164,7 @@ shape!(
     [0, 1, 2, 4],
     |e| [e.level as u32, e.x, e.y, 0, e.kind as u32],
     |f| Triangle { x: f[1], y: f[2], level: f[0] as u8, kind: f[4] as u8 },
-    |c| (&c.level, &c.x, &c.y, &c.kind)
+    |c| (&c.x, &c.y, &c.level, &c.kind)
 );
 shape!(
     Prism,
@@ -173,5 +173,5 @@ shape!(
     [0, 1, 2, 3, 4],
     |e| [e.level as u32, e.x, e.y, e.z, e.kind as u32],
     |f| Prism { x: f[1], y: f[2], z: f[3], level: f[0] as u8, kind: f[4] as u8 },
-    |c| (&c.level, &c.x, &c.y, &c.z, &c.kind)
+    |c| (&c.x, &c.y, &c.z, &c.level, &c.kind)
 );

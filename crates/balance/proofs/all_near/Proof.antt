@@ -6,8 +6,8 @@ use Prim.Native.Nat.{ℕ, _-_, _≤_}
 use native.Mathlib.Omega.{arith}
 use lib.ListN.{length}
 use borrow.Author.Needs.{needs}
-use Rattle.leaves.specs.Leaves.{leafAt, leaves}
-use Rattle.balance.specs.Balance.{balanced}
+use Rattle.leaves.specs.Leaves.{columns, leafAt, leaves}
+use Rattle.balance.specs.Balance.{isBalanced}
 use Rattle.balance.proofs.Pairs.{balancedFrom, pairs-start, pairs-more, pairs-done}
 use Rattle.balance.proofs.all_near.Statement.{statement}
 use Rattle.balance.proofs.all_near.Tie as tie
@@ -15,7 +15,7 @@ use Rattle.balance.proofs.all_near.Tie as tie
 abbrev Inv-loop : tie.InvT-loop
 Inv-loop roots levels all₀ i₀ all i =
     (1 ≤ i)
-    × ((positions : List ℕ) → balanced (leaves roots levels positions) ≡ (all && balancedFrom (leafAt roots levels positions) (length roots) i))
+    × ((positions : List ℕ) → isBalanced (leaves (columns roots levels positions)) ≡ (all && balancedFrom (leafAt (columns roots levels positions)) (length roots) i))
 
 abbrev μ-loop : tie.MeasureT-loop
 μ-loop roots levels all₀ i₀ all i = length roots - i
@@ -23,7 +23,7 @@ abbrev μ-loop : tie.MeasureT-loop
 loop-holds : tie.Need-loop-holds Inv-loop μ-loop
 loop-holds c =
     let a = c .before .before .args in
-    (omega arith, λ positions. pairs-start (leafAt (a .roots .now) (a .levels .now) positions) (length (a .roots .now)) (c .before .before .pre .0))
+    (omega arith, λ positions. pairs-start (leafAt (columns (a .roots .now) (a .levels .now) positions)) (length (a .roots .now)) (c .before .before .pre .0))
 
 sub-near-levels : tie.Need-sub-near-levels Inv-loop μ-loop
 sub-near-levels c = omega arith
@@ -60,12 +60,14 @@ loop-less c = omega arith
 
 loop-again : tie.Need-loop-again Inv-loop μ-loop
 loop-again c =
-    let a = c .before .before .before .before .before .before .before .before .before .args in
-    let at = c .before .before .before .before .before .before .loop in
+    let at-loop = c .before .before .before .before .before .before in
+    let start = at-loop .before .before .before in
+    let a = start .args in
+    let at = at-loop .loop in
     let asked = (c .before .before .near-levels) in (
       omega arith,
       λ positions. at .inv .1 positions
-          ∙ pairs-more (leafAt (a .roots .now) (a .levels .now) positions) (length (a .roots .now)) (at .i) (c .before .before .before .before .before .loop-test .taken)
+          ∙ pairs-more (leafAt (columns (a .roots .now) (a .levels .now) positions)) (length (a .roots .now)) (at .i) (c .before .before .before .before .before .loop-test .taken)
           (at .all) (asked .result) (asked .ensures),
     )
 
@@ -74,7 +76,7 @@ returns c =
     let a = c .before .before .before .before .args in
     let at = c .before .loop in
     λ positions. sym (at .inv .1 positions
-    ∙ ap (λ (t : Bool). at .all && t) (pairs-done (leafAt (a .roots .now) (a .levels .now) positions) (length (a .roots .now)) (at .i) (c .loop-test .left))
+    ∙ ap (λ (t : Bool). at .all && t) (pairs-done (leafAt (columns (a .roots .now) (a .levels .now) positions)) (length (a .roots .now)) (at .i) (c .loop-test .left))
     ∙ and-true (at .all))
 
 pub all-near-spec : {M : Type 1} → statement M

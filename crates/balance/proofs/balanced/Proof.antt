@@ -5,6 +5,7 @@ use mathlib.Core.Bool.{true}
 use borrow.Author.Needs.{needs}
 use Rattle.paper.specs.Outcome.{accepted}
 use Rattle.paper.specs.Readings.{passOf}
+use Rattle.leaves.specs.Leaves.{columns}
 use Rattle.leaves.proofs.Listed.{columns-sound, listed-passed, listed-refused}
 use Rattle.balance.proofs.balanced.Statement.{statement}
 use Rattle.balance.proofs.balanced.Tie as tie
@@ -19,7 +20,7 @@ all-near-requires : tie.Need-all-near-requires
 all-near-requires c κs =
     let a = c .before .before .before .before .before .before .args in
     let valid = sym (c .before .before .check-list .ensures) ∙ ap passOf (c .enum-told .given .1) in
-    let sound = columns-sound 8 21 (a .k) true true (a .roots .now) (a .levels .now) (a .positions .now) valid in
+    let sound = columns-sound 8 21 (a .k) true true (columns (a .roots .now) (a .levels .now) (a .positions .now)) valid in
     (sound .some, sound .levels-long)
 
 enum-known-number : tie.Need-enum-known-number
@@ -30,13 +31,13 @@ returns c =
     let a = c .before .before .before .before .before .before .before .args in
     let valid = sym (c .before .before .before .check-list .ensures) ∙ ap passOf (c .before .enum-told .given .1) in
     ap accepted (c .all-near .ensures (a .positions .now))
-    ∙ sym (listed-passed 8 21 (a .k) true true (a .roots .now) (a .levels .now) (a .positions .now) _ valid)
+    ∙ sym (listed-passed 8 21 (a .k) true true (columns (a .roots .now) (a .levels .now) (a .positions .now)) _ valid)
 
 returns-2 : tie.Need-returns-2
 returns-2 c =
     let a = c .before .before .before .before .before .before .before .args in
     let fault = sym (c .before .before .before .check-list .ensures) ∙ ap passOf (c .before .number .given .1) in
-    sym (listed-refused 8 21 (a .k) true true (a .roots .now) (a .levels .now) (a .positions .now) _ _ _ fault)
+    sym (listed-refused 8 21 (a .k) true true (columns (a .roots .now) (a .levels .now) (a .positions .now)) _ _ _ fault)
 
 pub balanced-spec : {M : Type 1} → statement M
 balanced-spec =

@@ -20,6 +20,9 @@ add-far c =
 wrapping-sub-u64-requires : tie.Need-wrapping-sub-u64-requires
 wrapping-sub-u64-requires c κs = search needs
 
+cast-if1 : tie.Need-cast-if1
+cast-if1 c = search needs
+
 returns : tie.Need-returns
 returns c = simp (test-gone (c .before .before .args .x + c .before .before .args .step * c .before .before .args .h) (c .before .before .args .h) (c .before .wrapping-sub-u64 .result) (c .before .wrapping-sub-u64 .ensures) (omega arith) (omega arith) (c .if1 .taken))
 
@@ -33,4 +36,4 @@ returns-2 c =
 
 pub moved-spec : {M : Type 1} → statement M
 moved-spec =
-    tie.close (tie.spec mul-far add-far wrapping-sub-u64-requires returns cast-result returns-2)
+    tie.close (tie.spec mul-far add-far wrapping-sub-u64-requires cast-if1 returns cast-result returns-2)

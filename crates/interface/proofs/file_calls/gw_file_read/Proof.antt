@@ -6,11 +6,12 @@ use borrow.Author.Needs.{needs}
 use lib.ListN.{length}
 use Rattle.paper.specs.Outcome.{Outcome}
 use Rattle.leaves.specs.Calls.{Columns, equalColumns}
-use Rattle.reader.specs.declared.GridAnswer.{GridAnswer}
-use Rattle.reader.specs.Calls.{reading, leavesIn, FileRead}
-use Rattle.reader.specs.Answers.{Size, gridOf}
-use Rattle.interface.specs.declared.GridResult.{GridResult}
-use Rattle.interface.specs.Results.{gridResult, ReadResult}
+use Rattle.gridfile.specs.declared.GridAnswer.{GridAnswer}
+use Rattle.gridfile.specs.Reading.{reading}
+use Rattle.gridfile.specs.Readings.{Size, gridOf}
+use Rattle.gridfile.specs.Calls.{leavesIn, FileRead}
+use Rattle.results.specs.declared.GridResult.{GridResult}
+use Rattle.results.specs.Results.{gridResult, ReadResult}
 use Rattle.interface.proofs.file_calls.gw_file_read.Statement.{statement}
 use Rattle.interface.proofs.file_calls.gw_file_read.Tie as tie
 

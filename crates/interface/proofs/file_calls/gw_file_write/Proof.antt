@@ -8,10 +8,10 @@ use Rattle.paper.specs.Outcome.{Outcome}
 use Rattle.paper.specs.Memory.{lent}
 use Rattle.paper.specs.Readings.{valueOf}
 use Rattle.leaves.specs.Leaves.{leaves}
-use Rattle.format.specs.File.{fileOf}
-use Rattle.writer.specs.Calls.{FileWritten}
-use Rattle.interface.specs.declared.NumberResult.{NumberResult}
-use Rattle.interface.specs.Results.{numberResult, WriteResult}
+use Rattle.gridfile.specs.File.{fileOf}
+use Rattle.gridfile.specs.Calls.{FileWritten}
+use Rattle.results.specs.declared.NumberResult.{NumberResult}
+use Rattle.results.specs.Results.{numberResult, WriteResult}
 use Rattle.interface.proofs.file_calls.gw_file_write.Statement.{statement}
 use Rattle.interface.proofs.file_calls.gw_file_write.Tie as tie
 

@@ -1,7 +1,7 @@
 -- `gw_line_position` meets its contract: the result of the call's outcome. Assumes nothing.
 use mathlib.Core.Path.{ap, _∙_}
 use borrow.Author.Needs.{needs}
-use Rattle.interface.specs.Results.{numberResult}
+use Rattle.results.specs.Results.{numberResult}
 use Rattle.interface.proofs.line_calls.gw_line_position.Statement.{statement}
 use Rattle.interface.proofs.line_calls.gw_line_position.Tie as tie
 

@@ -1,7 +1,7 @@
 -- `gw_list_balanced` meets its contract: the result of the call's outcome. Assumes nothing.
 use mathlib.Core.Path.{ap, _∙_}
 use borrow.Author.Needs.{needs}
-use Rattle.interface.specs.Results.{truthResult}
+use Rattle.results.specs.Results.{truthResult}
 use Rattle.interface.proofs.list_calls.gw_list_balanced.Statement.{statement}
 use Rattle.interface.proofs.list_calls.gw_list_balanced.Tie as tie
 

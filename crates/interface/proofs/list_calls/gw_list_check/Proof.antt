@@ -1,7 +1,7 @@
 -- `gw_list_check` meets its contract: the word of the call's outcome. Assumes nothing.
 use mathlib.Core.Path.{ap, _∙_}
 use borrow.Author.Needs.{needs}
-use Rattle.interface.specs.Results.{passResult}
+use Rattle.results.specs.Results.{passResult}
 use Rattle.interface.proofs.list_calls.gw_list_check.Statement.{statement}
 use Rattle.interface.proofs.list_calls.gw_list_check.Tie as tie
 

@@ -8,8 +8,8 @@ use Rattle.paper.specs.Memory.{lent}
 use Rattle.paper.specs.Readings.{valueOf}
 use Rattle.paper.specs.declared.NumberAnswer.{NumberAnswer}
 use Rattle.orders.specs.Calls.{output, Answered}
-use Rattle.interface.specs.declared.NumberResult.{NumberResult}
-use Rattle.interface.specs.Results.{numberResult}
+use Rattle.results.specs.declared.NumberResult.{NumberResult}
+use Rattle.results.specs.Results.{numberResult}
 use Rattle.interface.specs.Printing.{PrintedResult}
 use Rattle.interface.proofs.order_calls.gw_order.Statement.{statement}
 use Rattle.interface.proofs.order_calls.gw_order.Tie as tie

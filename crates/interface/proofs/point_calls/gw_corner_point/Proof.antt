@@ -1,7 +1,7 @@
 -- `gw_corner_point` meets its contract: the result of the call's outcome. Assumes nothing.
 use mathlib.Core.Path.{ap, _∙_}
 use borrow.Author.Needs.{needs}
-use Rattle.interface.specs.Results.{pointResult}
+use Rattle.results.specs.Results.{pointResult}
 use Rattle.interface.proofs.point_calls.gw_corner_point.Statement.{statement}
 use Rattle.interface.proofs.point_calls.gw_corner_point.Tie as tie
 

@@ -1,7 +1,7 @@
 -- `gw_triangle_position` meets its contract: the result of the call's outcome. Assumes nothing.
 use mathlib.Core.Path.{ap, _∙_}
 use borrow.Author.Needs.{needs}
-use Rattle.interface.specs.Results.{numberResult}
+use Rattle.results.specs.Results.{numberResult}
 use Rattle.interface.proofs.triangle_calls.gw_triangle_position.Statement.{statement}
 use Rattle.interface.proofs.triangle_calls.gw_triangle_position.Tie as tie
 

@@ -6,7 +6,6 @@ use lib.Pow.{pow-lt}
 use borrow.Author.Needs.{needs}
 use Rattle.tree.proofs.Call.{at-refused-1, at-refused-5, at-accepted}
 use Rattle.paper.specs.Outcome.{accepted}
-use Rattle.tree.specs.Words.{elementAt}
 use Rattle.tree.proofs.Anchor.{shifted-one}
 use Rattle.line.specs.Elements.{lineTo, line}
 use Rattle.line.proofs.Line.at.Statement.{statement}

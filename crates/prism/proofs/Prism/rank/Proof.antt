@@ -50,9 +50,9 @@ loop-holds : tie.Need-loop-holds Inv-loop μ-loop
 unfolding prismTo
 loop-holds c = climb-start (c .before .before .before .args .self .level) (c .before .before .before .args .self .x / side 21 (c .before .before .before .args .self .level)) (c .before .before .before .args .self .y / side 21 (c .before .before .before .args .self .level)) (c .before .before .before .args .self .z / side 21 (c .before .before .before .args .self .level)) (c .before .before .before .args .self .kind) (grids 21 (c .before .before .before .args .self) (c .before .before .before .pre) .0 .typed)
 
-place-of-requires : tie.Need-place-of-requires Inv-loop μ-loop
+slot-of-requires : tie.Need-slot-of-requires Inv-loop μ-loop
 unfolding prismTo
-place-of-requires c κs = tt
+slot-of-requires c κs = tt
 
 cast-sum : tie.Need-cast-sum Inv-loop μ-loop
 unfolding prismTo
@@ -66,14 +66,14 @@ cast-sum-2 : tie.Need-cast-sum-2 Inv-loop μ-loop
 unfolding prismTo
 cast-sum-2 c =
     let shallow = grids 21 (c .before .before .before .before .before .before .before .args .self) (c .before .before .before .before .before .before .before .pre) .0 .shallow in
-    let digit = climb-digit (positionAt prism (c .before .before .before .before .before .before .before .args .self .level) (unit (c .before .before .before .before .before .before .before .args .self .level) (c .before .before .before .before .before .before .before .args .self .x / side 21 (c .before .before .before .before .before .before .before .args .self .level)) (c .before .before .before .before .before .before .before .args .self .y / side 21 (c .before .before .before .before .before .before .before .args .self .level)) (c .before .before .before .before .before .before .before .args .self .z / side 21 (c .before .before .before .before .before .before .before .args .self .level)) (c .before .before .before .before .before .before .before .args .self .kind))) (c .before .before .before .before .before .before .before .args .self .level) (c .before .before .before .loop .sum) (c .before .before .before .loop .i) (c .before .before .before .loop .x) (c .before .before .before .loop .y) (c .before .before .before .loop .z) (c .before .before .before .loop .kind) (c .before .before .before .loop .inv) (grids 21 (c .before .before .before .before .before .before .before .args .self) (c .before .before .before .before .before .before .before .pre) .0 .shallow) (c .before .place-of .result) (c .before .place-of .ensures .0) (c .before .place-of .ensures .1) in
+    let digit = climb-digit (positionAt prism (c .before .before .before .before .before .before .before .args .self .level) (unit (c .before .before .before .before .before .before .before .args .self .level) (c .before .before .before .before .before .before .before .args .self .x / side 21 (c .before .before .before .before .before .before .before .args .self .level)) (c .before .before .before .before .before .before .before .args .self .y / side 21 (c .before .before .before .before .before .before .before .args .self .level)) (c .before .before .before .before .before .before .before .args .self .z / side 21 (c .before .before .before .before .before .before .before .args .self .level)) (c .before .before .before .before .before .before .before .args .self .kind))) (c .before .before .before .before .before .before .before .args .self .level) (c .before .before .before .loop .sum) (c .before .before .before .loop .i) (c .before .before .before .loop .x) (c .before .before .before .loop .y) (c .before .before .before .loop .z) (c .before .before .before .loop .kind) (c .before .before .before .loop .inv) (grids 21 (c .before .before .before .before .before .before .before .args .self) (c .before .before .before .before .before .before .before .pre) .0 .shallow) (c .before .slot-of .result) (c .before .slot-of .ensures) in
     omega arith
 
 add-sum : tie.Need-add-sum Inv-loop μ-loop
 unfolding prismTo
 add-sum c =
     let shallow = grids 21 (c .before .before .before .before .before .before .before .args .self) (c .before .before .before .before .before .before .before .pre) .0 .shallow in
-    let digit = climb-digit (positionAt prism (c .before .before .before .before .before .before .before .args .self .level) (unit (c .before .before .before .before .before .before .before .args .self .level) (c .before .before .before .before .before .before .before .args .self .x / side 21 (c .before .before .before .before .before .before .before .args .self .level)) (c .before .before .before .before .before .before .before .args .self .y / side 21 (c .before .before .before .before .before .before .before .args .self .level)) (c .before .before .before .before .before .before .before .args .self .z / side 21 (c .before .before .before .before .before .before .before .args .self .level)) (c .before .before .before .before .before .before .before .args .self .kind))) (c .before .before .before .before .before .before .before .args .self .level) (c .before .before .before .loop .sum) (c .before .before .before .loop .i) (c .before .before .before .loop .x) (c .before .before .before .loop .y) (c .before .before .before .loop .z) (c .before .before .before .loop .kind) (c .before .before .before .loop .inv) (grids 21 (c .before .before .before .before .before .before .before .args .self) (c .before .before .before .before .before .before .before .pre) .0 .shallow) (c .before .place-of .result) (c .before .place-of .ensures .0) (c .before .place-of .ensures .1) in
+    let digit = climb-digit (positionAt prism (c .before .before .before .before .before .before .before .args .self .level) (unit (c .before .before .before .before .before .before .before .args .self .level) (c .before .before .before .before .before .before .before .args .self .x / side 21 (c .before .before .before .before .before .before .before .args .self .level)) (c .before .before .before .before .before .before .before .args .self .y / side 21 (c .before .before .before .before .before .before .before .args .self .level)) (c .before .before .before .before .before .before .before .args .self .z / side 21 (c .before .before .before .before .before .before .before .args .self .level)) (c .before .before .before .before .before .before .before .args .self .kind))) (c .before .before .before .before .before .before .before .args .self .level) (c .before .before .before .loop .sum) (c .before .before .before .loop .i) (c .before .before .before .loop .x) (c .before .before .before .loop .y) (c .before .before .before .loop .z) (c .before .before .before .loop .kind) (c .before .before .before .loop .inv) (grids 21 (c .before .before .before .before .before .before .before .args .self) (c .before .before .before .before .before .before .before .pre) .0 .shallow) (c .before .slot-of .result) (c .before .slot-of .ensures) in
     omega arith
 
 mul-sum-2 : tie.Need-mul-sum-2 Inv-loop μ-loop
@@ -92,9 +92,9 @@ add-sum-2 : tie.Need-add-sum-2 Inv-loop μ-loop
 unfolding prismTo
 add-sum-2 c =
     let shallow = grids 21 (c .before .before .before .before .before .before .before .args .self) (c .before .before .before .before .before .before .before .pre) .0 .shallow in
-    let digit = climb-digit (positionAt prism (c .before .before .before .before .before .before .before .args .self .level) (unit (c .before .before .before .before .before .before .before .args .self .level) (c .before .before .before .before .before .before .before .args .self .x / side 21 (c .before .before .before .before .before .before .before .args .self .level)) (c .before .before .before .before .before .before .before .args .self .y / side 21 (c .before .before .before .before .before .before .before .args .self .level)) (c .before .before .before .before .before .before .before .args .self .z / side 21 (c .before .before .before .before .before .before .before .args .self .level)) (c .before .before .before .before .before .before .before .args .self .kind))) (c .before .before .before .before .before .before .before .args .self .level) (c .before .before .before .loop .sum) (c .before .before .before .loop .i) (c .before .before .before .loop .x) (c .before .before .before .loop .y) (c .before .before .before .loop .z) (c .before .before .before .loop .kind) (c .before .before .before .loop .inv) (grids 21 (c .before .before .before .before .before .before .before .args .self) (c .before .before .before .before .before .before .before .pre) .0 .shallow) (c .before .place-of .result) (c .before .place-of .ensures .0) (c .before .place-of .ensures .1) in
-    let shifted = digit-shifted 3 (4 * (c .before .before .before .loop .z % 2) + c .before .place-of .result .number) (c .before .before .before .loop .i) digit (omega arith) in
-    let sum = sum-below 3 (c .before .before .before .loop .sum) (4 * (c .before .before .before .loop .z % 2) + c .before .place-of .result .number) (c .before .before .before .loop .i) (c .before .before .before .loop .inv .low) digit in
+    let digit = climb-digit (positionAt prism (c .before .before .before .before .before .before .before .args .self .level) (unit (c .before .before .before .before .before .before .before .args .self .level) (c .before .before .before .before .before .before .before .args .self .x / side 21 (c .before .before .before .before .before .before .before .args .self .level)) (c .before .before .before .before .before .before .before .args .self .y / side 21 (c .before .before .before .before .before .before .before .args .self .level)) (c .before .before .before .before .before .before .before .args .self .z / side 21 (c .before .before .before .before .before .before .before .args .self .level)) (c .before .before .before .before .before .before .before .args .self .kind))) (c .before .before .before .before .before .before .before .args .self .level) (c .before .before .before .loop .sum) (c .before .before .before .loop .i) (c .before .before .before .loop .x) (c .before .before .before .loop .y) (c .before .before .before .loop .z) (c .before .before .before .loop .kind) (c .before .before .before .loop .inv) (grids 21 (c .before .before .before .before .before .before .before .args .self) (c .before .before .before .before .before .before .before .pre) .0 .shallow) (c .before .slot-of .result) (c .before .slot-of .ensures) in
+    let shifted = digit-shifted 3 (4 * (c .before .before .before .loop .z % 2) + c .before .slot-of .result .number) (c .before .before .before .loop .i) digit (omega arith) in
+    let sum = sum-below 3 (c .before .before .before .loop .sum) (4 * (c .before .before .before .loop .z % 2) + c .before .slot-of .result .number) (c .before .before .before .loop .i) (c .before .before .before .loop .inv .low) digit in
     let fits : 2 ^ (3 * suc (c .before .before .before .loop .i)) ≤ 2 ^ 63 = pow-mono {i = 3 * suc (c .before .before .before .loop .i)} {j = 63} (omega arith) in
     omega arith
 
@@ -110,10 +110,10 @@ loop-again : tie.Need-loop-again Inv-loop μ-loop
 unfolding prismTo
 loop-again c =
     let shallow = grids 21 (c .before .before .before .before .before .before .before .args .self) (c .before .before .before .before .before .before .before .pre) .0 .shallow in
-    let digit = climb-digit (positionAt prism (c .before .before .before .before .before .before .before .args .self .level) (unit (c .before .before .before .before .before .before .before .args .self .level) (c .before .before .before .before .before .before .before .args .self .x / side 21 (c .before .before .before .before .before .before .before .args .self .level)) (c .before .before .before .before .before .before .before .args .self .y / side 21 (c .before .before .before .before .before .before .before .args .self .level)) (c .before .before .before .before .before .before .before .args .self .z / side 21 (c .before .before .before .before .before .before .before .args .self .level)) (c .before .before .before .before .before .before .before .args .self .kind))) (c .before .before .before .before .before .before .before .args .self .level) (c .before .before .before .loop .sum) (c .before .before .before .loop .i) (c .before .before .before .loop .x) (c .before .before .before .loop .y) (c .before .before .before .loop .z) (c .before .before .before .loop .kind) (c .before .before .before .loop .inv) (grids 21 (c .before .before .before .before .before .before .before .args .self) (c .before .before .before .before .before .before .before .pre) .0 .shallow) (c .before .place-of .result) (c .before .place-of .ensures .0) (c .before .place-of .ensures .1) in
-    let shifted = digit-shifted 3 (4 * (c .before .before .before .loop .z % 2) + c .before .place-of .result .number) (c .before .before .before .loop .i) digit (omega arith) in
-    subst⁻¹ (λ (m : ℕ). Climbed (positionAt prism (c .before .before .before .before .before .before .before .args .self .level) (unit (c .before .before .before .before .before .before .before .args .self .level) (c .before .before .before .before .before .before .before .args .self .x / side 21 (c .before .before .before .before .before .before .before .args .self .level)) (c .before .before .before .before .before .before .before .args .self .y / side 21 (c .before .before .before .before .before .before .before .args .self .level)) (c .before .before .before .before .before .before .before .args .self .z / side 21 (c .before .before .before .before .before .before .before .args .self .level)) (c .before .before .before .before .before .before .before .args .self .kind))) (c .before .before .before .before .before .before .before .args .self .level) (c .before .before .before .loop .sum + m) (c .before .before .before .loop .i + 1) (c .before .before .before .loop .x / 2) (c .before .before .before .loop .y / 2) (c .before .before .before .loop .z / 2) (c .before .place-of .result .kind)) shifted
-    (climb-again (positionAt prism (c .before .before .before .before .before .before .before .args .self .level) (unit (c .before .before .before .before .before .before .before .args .self .level) (c .before .before .before .before .before .before .before .args .self .x / side 21 (c .before .before .before .before .before .before .before .args .self .level)) (c .before .before .before .before .before .before .before .args .self .y / side 21 (c .before .before .before .before .before .before .before .args .self .level)) (c .before .before .before .before .before .before .before .args .self .z / side 21 (c .before .before .before .before .before .before .before .args .self .level)) (c .before .before .before .before .before .before .before .args .self .kind))) (c .before .before .before .before .before .before .before .args .self .level) (c .before .before .before .loop .sum) (c .before .before .before .loop .i) (c .before .before .before .loop .x) (c .before .before .before .loop .y) (c .before .before .before .loop .z) (c .before .before .before .loop .kind) (c .before .before .before .loop .inv) (grids 21 (c .before .before .before .before .before .before .before .args .self) (c .before .before .before .before .before .before .before .pre) .0 .shallow) (c .before .place-of .result) (c .before .place-of .ensures .0) (c .before .place-of .ensures .1) (c .before .before .loop-test .taken))
+    let digit = climb-digit (positionAt prism (c .before .before .before .before .before .before .before .args .self .level) (unit (c .before .before .before .before .before .before .before .args .self .level) (c .before .before .before .before .before .before .before .args .self .x / side 21 (c .before .before .before .before .before .before .before .args .self .level)) (c .before .before .before .before .before .before .before .args .self .y / side 21 (c .before .before .before .before .before .before .before .args .self .level)) (c .before .before .before .before .before .before .before .args .self .z / side 21 (c .before .before .before .before .before .before .before .args .self .level)) (c .before .before .before .before .before .before .before .args .self .kind))) (c .before .before .before .before .before .before .before .args .self .level) (c .before .before .before .loop .sum) (c .before .before .before .loop .i) (c .before .before .before .loop .x) (c .before .before .before .loop .y) (c .before .before .before .loop .z) (c .before .before .before .loop .kind) (c .before .before .before .loop .inv) (grids 21 (c .before .before .before .before .before .before .before .args .self) (c .before .before .before .before .before .before .before .pre) .0 .shallow) (c .before .slot-of .result) (c .before .slot-of .ensures) in
+    let shifted = digit-shifted 3 (4 * (c .before .before .before .loop .z % 2) + c .before .slot-of .result .number) (c .before .before .before .loop .i) digit (omega arith) in
+    subst⁻¹ (λ (m : ℕ). Climbed (positionAt prism (c .before .before .before .before .before .before .before .args .self .level) (unit (c .before .before .before .before .before .before .before .args .self .level) (c .before .before .before .before .before .before .before .args .self .x / side 21 (c .before .before .before .before .before .before .before .args .self .level)) (c .before .before .before .before .before .before .before .args .self .y / side 21 (c .before .before .before .before .before .before .before .args .self .level)) (c .before .before .before .before .before .before .before .args .self .z / side 21 (c .before .before .before .before .before .before .before .args .self .level)) (c .before .before .before .before .before .before .before .args .self .kind))) (c .before .before .before .before .before .before .before .args .self .level) (c .before .before .before .loop .sum + m) (c .before .before .before .loop .i + 1) (c .before .before .before .loop .x / 2) (c .before .before .before .loop .y / 2) (c .before .before .before .loop .z / 2) (c .before .slot-of .result .kind)) shifted
+    (climb-again (positionAt prism (c .before .before .before .before .before .before .before .args .self .level) (unit (c .before .before .before .before .before .before .before .args .self .level) (c .before .before .before .before .before .before .before .args .self .x / side 21 (c .before .before .before .before .before .before .before .args .self .level)) (c .before .before .before .before .before .before .before .args .self .y / side 21 (c .before .before .before .before .before .before .before .args .self .level)) (c .before .before .before .before .before .before .before .args .self .z / side 21 (c .before .before .before .before .before .before .before .args .self .level)) (c .before .before .before .before .before .before .before .args .self .kind))) (c .before .before .before .before .before .before .before .args .self .level) (c .before .before .before .loop .sum) (c .before .before .before .loop .i) (c .before .before .before .loop .x) (c .before .before .before .loop .y) (c .before .before .before .loop .z) (c .before .before .before .loop .kind) (c .before .before .before .loop .inv) (grids 21 (c .before .before .before .before .before .before .before .args .self) (c .before .before .before .before .before .before .before .pre) .0 .shallow) (c .before .slot-of .result) (c .before .slot-of .ensures) (c .before .before .loop-test .taken))
 
 returns : tie.Need-returns Inv-loop μ-loop
 unfolding prismTo
@@ -133,7 +133,7 @@ rank-spec =
     cast-z
     shr-z
     loop-holds
-    place-of-requires
+    slot-of-requires
     cast-sum
     mul-sum
     cast-sum-2

@@ -3,7 +3,7 @@
 use Prim.Native.Nat.{_-_}
 use native.Mathlib.Omega.{arith}
 use lib.ListN.{length}
-use Rattle.shares.specs.Turns.{Within}
+use Rattle.shares.specs.Inner.{Within}
 use Rattle.shares.proofs.Turns.{reached-next}
 use Rattle.shares.proofs.division.advance.Statement.{statement}
 use Rattle.shares.proofs.division.advance.Tie as tie

@@ -16,12 +16,16 @@ whole-weight-requires : tie.Need-whole-weight-requires Inv-loop μ-loop
 whole-weight-requires c κs = (c .before .before .pre .1 .1 .0)
 
 loop-holds : tie.Need-loop-holds Inv-loop μ-loop
-loop-holds c = divided-none (c .before .before .before .args .p) (c .whole-weight .result) (c .before .before .before .args .weights .now) (c .before .before .before .args .boundaries .now)
+loop-holds c =
+    let start = c .before .before .before in
+    let a = start .args in
+    divided-none (a .p) (c .whole-weight .result) (a .weights .now) (a .boundaries .now)
 
 mul-parts : tie.Need-mul-parts Inv-loop μ-loop
 mul-parts c =
-    let inside : (c .before .loop .s) ≤ (c .before .before .before .before .before .args .p) = omega (arith, (c .loop-test .taken)) in
-    let small = parts-small (c .before .before .before .before .before .pre .1 .0) (c .before .before .whole-weight .ensures .1) (c .before .before .before .before .before .pre .1 .1 .0) inside in
+    let start = c .before .before .before .before .before in
+    let inside : (c .before .loop .s) ≤ (start .args .p) = omega (arith, (c .loop-test .taken)) in
+    let small = parts-small (start .pre .1 .0) (c .before .before .whole-weight .ensures .1) (start .pre .1 .1 .0) inside in
     omega arith
 
 div-limit : tie.Need-div-limit Inv-loop μ-loop
@@ -29,10 +33,12 @@ div-limit c = (c .before .before .before .before .before .pre .0)
 
 advance-requires : tie.Need-advance-requires Inv-loop μ-loop
 advance-requires c κs =
-    let inside : (c .before .loop .s) ≤ (c .before .before .before .before .before .args .p) = omega (arith, (c .loop-test .taken)) in
-    let small = parts-small (c .before .before .before .before .before .pre .1 .0) (c .before .before .whole-weight .ensures .1) (c .before .before .before .before .before .pre .1 .1 .0) inside in
-    let limit-small = div-le-self ((c .before .loop .s) * (c .before .before .whole-weight .result)) (c .before .before .before .before .before .args .p) in
-    let reached = (c .before .loop .inv .reached) in
+    let at-loop = c .before in
+    let start = at-loop .before .before .before .before in
+    let inside : (at-loop .loop .s) ≤ (start .args .p) = omega (arith, (c .loop-test .taken)) in
+    let small = parts-small (start .pre .1 .0) (c .before .before .whole-weight .ensures .1) (start .pre .1 .1 .0) inside in
+    let limit-small = div-le-self ((at-loop .loop .s) * (c .before .before .whole-weight .result)) (start .args .p) in
+    let reached = (at-loop .loop .inv .reached) in
     (omega arith, record { within = reached .within; summed = reached .summed; under = omega (arith, reached .under) })
 
 cast-boundaries : tie.Need-cast-boundaries Inv-loop μ-loop
@@ -42,7 +48,9 @@ mul-boundaries : tie.Need-mul-boundaries Inv-loop μ-loop
 mul-boundaries c = omega (arith, (c .before .before .loop-test .taken), (c .before .before .before .before .before .before .before .pre .1 .0))
 
 slice-write-boundaries : tie.Need-slice-write-boundaries Inv-loop μ-loop
-slice-write-boundaries c = omega (arith, divided-length (c .before .before .before .loop .inv) (c .before .before .before .before .before .before .before .pre .1 .1 .1), (c .before .before .loop-test .taken), (c .before .before .before .before .before .before .before .pre .1 .1 .1))
+slice-write-boundaries c =
+    let start = c .before .before .before .before .before .before .before in
+    omega (arith, divided-length (c .before .before .before .loop .inv) (start .pre .1 .1 .1), (c .before .before .loop-test .taken), (start .pre .1 .1 .1))
 
 add-s : tie.Need-add-s Inv-loop μ-loop
 add-s c = omega (arith, (c .before .before .loop-test .taken), (c .before .before .before .before .before .before .before .pre .1 .0))
@@ -52,8 +60,11 @@ loop-less c = omega (arith, (c .before .before .loop-test .taken))
 
 loop-again : tie.Need-loop-again Inv-loop μ-loop
 loop-again c =
-    let inside : (c .before .before .before .loop .s) ≤ (c .before .before .before .before .before .before .before .args .p) = omega (arith, (c .before .before .loop-test .taken)) in
-    divided-more (c .before .before .before .loop .inv) (c .before .before .before .before .before .before .before .pre .1 .1 .1) (c .before .before .before .before .before .before .before .pre .0) (c .before .before .before .before .whole-weight .ensures .0) inside (c .before .advance .result .count) (c .before .advance .result .sum) (c .before .advance .ensures)
+    let at-advance = c .before in
+    let at-loop = at-advance .before .before in
+    let start = at-loop .before .before .before .before in
+    let inside : (at-loop .loop .s) ≤ (start .args .p) = omega (arith, (c .before .before .loop-test .taken)) in
+    divided-more (at-loop .loop .inv) (start .pre .1 .1 .1) (start .pre .0) (c .before .before .before .before .whole-weight .ensures .0) inside (at-advance .advance .result .count) (at-advance .advance .result .sum) (at-advance .advance .ensures)
 
 same-length : tie.Need-same-length Inv-loop μ-loop
 same-length c = divided-length (c .before .loop .inv) (c .before .before .before .before .before .pre .1 .1 .1)

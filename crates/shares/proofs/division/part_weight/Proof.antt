@@ -43,8 +43,10 @@ loop-again c =
 
 returns : tie.Need-returns Inv-loop μ-loop
 returns c =
-    let all : (c .before .loop .i) ≡ length (c .before .before .args .weights .now) = omega arith in
-    ((c .before .loop .inv .1 .0) ∙ ap (λ (j : ℕ). total (take j (c .before .before .args .weights .now))) all ∙ total-all (c .before .before .args .weights .now), omega arith)
+    let start = c .before .before in
+    let a = start .args in
+    let all : (c .before .loop .i) ≡ length (a .weights .now) = omega arith in
+    ((c .before .loop .inv .1 .0) ∙ ap (λ (j : ℕ). total (take j (a .weights .now))) all ∙ total-all (a .weights .now), omega arith)
 
 pub part-weight-spec : {M : Type 1} → statement M
 part-weight-spec =

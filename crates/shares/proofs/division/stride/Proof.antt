@@ -3,7 +3,7 @@ use Prim.Native.Nat.{_+_, _-_}
 use native.Mathlib.Omega.{arith}
 use lib.ListN.{length}
 use borrow.Author.Needs.{needs}
-use Rattle.shares.specs.Turns.{Within}
+use Rattle.shares.specs.Inner.{Within}
 use Rattle.shares.proofs.Turns.{reached-part}
 use Rattle.shares.proofs.division.stride.Statement.{statement}
 use Rattle.shares.proofs.division.stride.Tie as tie
@@ -52,7 +52,8 @@ loop-less c = omega (arith, c .before .before .before .before .loop .inv .within
 
 loop-again : tie.Need-loop-again Inv-loop μ-loop
 loop-again c =
-    reached-part (c .before .before .before .before .loop .inv) ((c .before .before .before .before .loop .count) + 16) (c .before .part-weight .result) (omega arith) (omega (arith, c .before .before .before .before .loop .inv .within)) (c .before .part-weight .ensures .0) (c .if1 .left)
+    let at-loop = c .before .before .before .before in
+    reached-part (at-loop .loop .inv) ((at-loop .loop .count) + 16) (c .before .part-weight .result) (omega arith) (omega (arith, at-loop .loop .inv .within)) (c .before .part-weight .ensures .0) (c .if1 .left)
 
 returns-2 : tie.Need-returns-2 Inv-loop μ-loop
 returns-2 c = c .before .loop .inv

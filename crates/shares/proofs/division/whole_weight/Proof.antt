@@ -48,7 +48,8 @@ loop-less c = omega (arith, (c .before .before .part-end .ensures))
 
 loop-again : tie.Need-loop-again Inv-loop μ-loop
 loop-again c =
-    let more = total-part (c .before .before .before .before .before .before .args .weights .now) (c .before .before .before .before .loop .count) (c .before .before .part-end .result) (omega arith) in
+    let start = c .before .before .before .before .before .before in
+    let more = total-part (start .args .weights .now) (c .before .before .before .before .loop .count) (c .before .before .part-end .result) (omega arith) in
     (omega arith, (omega arith, omega arith))
 
 returns : tie.Need-returns Inv-loop μ-loop

@@ -2,7 +2,7 @@
 use mathlib.Core.Path.{_≡_, refl, ap, ap₂, _∙_, sym}
 use native.Mathlib.Nat.{mod-eq-of-lt}
 use borrow.Author.Needs.{needs}
-use Rattle.triangle.specs.Rows.{faceRow}
+use Rattle.rows.specs.Rows.{faceRow}
 use Rattle.triangle.specs.Elements.{triangleTo, acrossBy}
 use Rattle.triangle.proofs.Laws.{known}
 use Rattle.triangle.proofs.Across.{gone-x, gone-y, beyond, within}

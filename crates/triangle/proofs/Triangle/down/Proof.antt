@@ -8,10 +8,10 @@ use borrow.Author.Needs.{needs}
 use Rattle.tree.specs.Anchors.{side}
 use Rattle.tree.proofs.Anchor.{end-inside, side-suc}
 use Rattle.triangle.specs.Elements.{triangleTo}
-use Rattle.triangle.specs.declared.rows.Step.{Step}
-use Rattle.triangle.specs.Rows.{childRow}
+use Rattle.rows.specs.declared.Step.{Step}
+use Rattle.rows.specs.Rows.{childRow}
 use Rattle.triangle.proofs.Laws.{known, triangle-path}
-use Rattle.triangle.proofs.Tables.{childRow-small}
+use Rattle.rows.proofs.Tables.{childRow-small}
 use Rattle.triangle.proofs.Triangle.down.Statement.{statement}
 use Rattle.triangle.proofs.Triangle.down.Tie as tie
 

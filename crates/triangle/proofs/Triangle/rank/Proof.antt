@@ -43,15 +43,15 @@ loop-holds : tie.Need-loop-holds Inv-loop μ-loop
 unfolding triangleTo
 loop-holds c = climb-start (c .before .before .args .self .level) (c .before .before .args .self .x / side 21 (c .before .before .args .self .level)) (c .before .before .args .self .y / side 21 (c .before .before .args .self .level)) (c .before .before .args .self .kind) (known 21 (c .before .before .args .self) (c .before .before .pre) .typed)
 
-place-of-requires : tie.Need-place-of-requires Inv-loop μ-loop
+slot-of-requires : tie.Need-slot-of-requires Inv-loop μ-loop
 unfolding triangleTo
-place-of-requires c κs = tt
+slot-of-requires c κs = tt
 
 cast-sum : tie.Need-cast-sum Inv-loop μ-loop
 unfolding triangleTo
 cast-sum c =
     let shallow = known 21 (c .before .before .before .before .before .before .args .self) (c .before .before .before .before .before .before .pre) .shallow in
-    let digit = climb-digit (positionAt triangle (c .before .before .before .before .before .before .args .self .level) (unit 21 (c .before .before .before .before .before .before .args .self .level) (c .before .before .before .before .before .before .args .self .x / side 21 (c .before .before .before .before .before .before .args .self .level)) (c .before .before .before .before .before .before .args .self .y / side 21 (c .before .before .before .before .before .before .args .self .level)) (c .before .before .before .before .before .before .args .self .kind))) (c .before .before .before .before .before .before .args .self .level) (c .before .before .before .loop .sum) (c .before .before .before .loop .i) (c .before .before .before .loop .x) (c .before .before .before .loop .y) (c .before .before .before .loop .kind) (c .before .before .before .loop .inv) (known 21 (c .before .before .before .before .before .before .args .self) (c .before .before .before .before .before .before .pre) .shallow) (c .before .place-of .result) (c .before .place-of .ensures .0) (c .before .place-of .ensures .1) in
+    let digit = climb-digit (positionAt triangle (c .before .before .before .before .before .before .args .self .level) (unit 21 (c .before .before .before .before .before .before .args .self .level) (c .before .before .before .before .before .before .args .self .x / side 21 (c .before .before .before .before .before .before .args .self .level)) (c .before .before .before .before .before .before .args .self .y / side 21 (c .before .before .before .before .before .before .args .self .level)) (c .before .before .before .before .before .before .args .self .kind))) (c .before .before .before .before .before .before .args .self .level) (c .before .before .before .loop .sum) (c .before .before .before .loop .i) (c .before .before .before .loop .x) (c .before .before .before .loop .y) (c .before .before .before .loop .kind) (c .before .before .before .loop .inv) (known 21 (c .before .before .before .before .before .before .args .self) (c .before .before .before .before .before .before .pre) .shallow) (c .before .slot-of .result) (c .before .slot-of .ensures) in
     omega arith
 
 mul-sum : tie.Need-mul-sum Inv-loop μ-loop
@@ -70,9 +70,9 @@ add-sum : tie.Need-add-sum Inv-loop μ-loop
 unfolding triangleTo
 add-sum c =
     let shallow = known 21 (c .before .before .before .before .before .before .args .self) (c .before .before .before .before .before .before .pre) .shallow in
-    let digit = climb-digit (positionAt triangle (c .before .before .before .before .before .before .args .self .level) (unit 21 (c .before .before .before .before .before .before .args .self .level) (c .before .before .before .before .before .before .args .self .x / side 21 (c .before .before .before .before .before .before .args .self .level)) (c .before .before .before .before .before .before .args .self .y / side 21 (c .before .before .before .before .before .before .args .self .level)) (c .before .before .before .before .before .before .args .self .kind))) (c .before .before .before .before .before .before .args .self .level) (c .before .before .before .loop .sum) (c .before .before .before .loop .i) (c .before .before .before .loop .x) (c .before .before .before .loop .y) (c .before .before .before .loop .kind) (c .before .before .before .loop .inv) (known 21 (c .before .before .before .before .before .before .args .self) (c .before .before .before .before .before .before .pre) .shallow) (c .before .place-of .result) (c .before .place-of .ensures .0) (c .before .place-of .ensures .1) in
-    let shifted = digit-shifted 2 (c .before .place-of .result .number) (c .before .before .before .loop .i) digit (omega arith) in
-    let sum = sum-below 2 (c .before .before .before .loop .sum) (c .before .place-of .result .number) (c .before .before .before .loop .i) (c .before .before .before .loop .inv .low) digit in
+    let digit = climb-digit (positionAt triangle (c .before .before .before .before .before .before .args .self .level) (unit 21 (c .before .before .before .before .before .before .args .self .level) (c .before .before .before .before .before .before .args .self .x / side 21 (c .before .before .before .before .before .before .args .self .level)) (c .before .before .before .before .before .before .args .self .y / side 21 (c .before .before .before .before .before .before .args .self .level)) (c .before .before .before .before .before .before .args .self .kind))) (c .before .before .before .before .before .before .args .self .level) (c .before .before .before .loop .sum) (c .before .before .before .loop .i) (c .before .before .before .loop .x) (c .before .before .before .loop .y) (c .before .before .before .loop .kind) (c .before .before .before .loop .inv) (known 21 (c .before .before .before .before .before .before .args .self) (c .before .before .before .before .before .before .pre) .shallow) (c .before .slot-of .result) (c .before .slot-of .ensures) in
+    let shifted = digit-shifted 2 (c .before .slot-of .result .number) (c .before .before .before .loop .i) digit (omega arith) in
+    let sum = sum-below 2 (c .before .before .before .loop .sum) (c .before .slot-of .result .number) (c .before .before .before .loop .i) (c .before .before .before .loop .inv .low) digit in
     let fits : 2 ^ (2 * suc (c .before .before .before .loop .i)) ≤ 2 ^ 63 = pow-mono {i = 2 * suc (c .before .before .before .loop .i)} {j = 63} (omega arith) in
     omega arith
 
@@ -88,10 +88,10 @@ loop-again : tie.Need-loop-again Inv-loop μ-loop
 unfolding triangleTo
 loop-again c =
     let shallow = known 21 (c .before .before .before .before .before .before .args .self) (c .before .before .before .before .before .before .pre) .shallow in
-    let digit = climb-digit (positionAt triangle (c .before .before .before .before .before .before .args .self .level) (unit 21 (c .before .before .before .before .before .before .args .self .level) (c .before .before .before .before .before .before .args .self .x / side 21 (c .before .before .before .before .before .before .args .self .level)) (c .before .before .before .before .before .before .args .self .y / side 21 (c .before .before .before .before .before .before .args .self .level)) (c .before .before .before .before .before .before .args .self .kind))) (c .before .before .before .before .before .before .args .self .level) (c .before .before .before .loop .sum) (c .before .before .before .loop .i) (c .before .before .before .loop .x) (c .before .before .before .loop .y) (c .before .before .before .loop .kind) (c .before .before .before .loop .inv) (known 21 (c .before .before .before .before .before .before .args .self) (c .before .before .before .before .before .before .pre) .shallow) (c .before .place-of .result) (c .before .place-of .ensures .0) (c .before .place-of .ensures .1) in
-    let shifted = digit-shifted 2 (c .before .place-of .result .number) (c .before .before .before .loop .i) digit (omega arith) in
-    subst⁻¹ (λ (m : ℕ). Climbed (positionAt triangle (c .before .before .before .before .before .before .args .self .level) (unit 21 (c .before .before .before .before .before .before .args .self .level) (c .before .before .before .before .before .before .args .self .x / side 21 (c .before .before .before .before .before .before .args .self .level)) (c .before .before .before .before .before .before .args .self .y / side 21 (c .before .before .before .before .before .before .args .self .level)) (c .before .before .before .before .before .before .args .self .kind))) (c .before .before .before .before .before .before .args .self .level) (c .before .before .before .loop .sum + m) (c .before .before .before .loop .i + 1) (c .before .before .before .loop .x / 2) (c .before .before .before .loop .y / 2) (c .before .place-of .result .kind)) shifted
-    (climb-again (positionAt triangle (c .before .before .before .before .before .before .args .self .level) (unit 21 (c .before .before .before .before .before .before .args .self .level) (c .before .before .before .before .before .before .args .self .x / side 21 (c .before .before .before .before .before .before .args .self .level)) (c .before .before .before .before .before .before .args .self .y / side 21 (c .before .before .before .before .before .before .args .self .level)) (c .before .before .before .before .before .before .args .self .kind))) (c .before .before .before .before .before .before .args .self .level) (c .before .before .before .loop .sum) (c .before .before .before .loop .i) (c .before .before .before .loop .x) (c .before .before .before .loop .y) (c .before .before .before .loop .kind) (c .before .before .before .loop .inv) (known 21 (c .before .before .before .before .before .before .args .self) (c .before .before .before .before .before .before .pre) .shallow) (c .before .place-of .result) (c .before .place-of .ensures .0) (c .before .place-of .ensures .1) (c .before .before .loop-test .taken))
+    let digit = climb-digit (positionAt triangle (c .before .before .before .before .before .before .args .self .level) (unit 21 (c .before .before .before .before .before .before .args .self .level) (c .before .before .before .before .before .before .args .self .x / side 21 (c .before .before .before .before .before .before .args .self .level)) (c .before .before .before .before .before .before .args .self .y / side 21 (c .before .before .before .before .before .before .args .self .level)) (c .before .before .before .before .before .before .args .self .kind))) (c .before .before .before .before .before .before .args .self .level) (c .before .before .before .loop .sum) (c .before .before .before .loop .i) (c .before .before .before .loop .x) (c .before .before .before .loop .y) (c .before .before .before .loop .kind) (c .before .before .before .loop .inv) (known 21 (c .before .before .before .before .before .before .args .self) (c .before .before .before .before .before .before .pre) .shallow) (c .before .slot-of .result) (c .before .slot-of .ensures) in
+    let shifted = digit-shifted 2 (c .before .slot-of .result .number) (c .before .before .before .loop .i) digit (omega arith) in
+    subst⁻¹ (λ (m : ℕ). Climbed (positionAt triangle (c .before .before .before .before .before .before .args .self .level) (unit 21 (c .before .before .before .before .before .before .args .self .level) (c .before .before .before .before .before .before .args .self .x / side 21 (c .before .before .before .before .before .before .args .self .level)) (c .before .before .before .before .before .before .args .self .y / side 21 (c .before .before .before .before .before .before .args .self .level)) (c .before .before .before .before .before .before .args .self .kind))) (c .before .before .before .before .before .before .args .self .level) (c .before .before .before .loop .sum + m) (c .before .before .before .loop .i + 1) (c .before .before .before .loop .x / 2) (c .before .before .before .loop .y / 2) (c .before .slot-of .result .kind)) shifted
+    (climb-again (positionAt triangle (c .before .before .before .before .before .before .args .self .level) (unit 21 (c .before .before .before .before .before .before .args .self .level) (c .before .before .before .before .before .before .args .self .x / side 21 (c .before .before .before .before .before .before .args .self .level)) (c .before .before .before .before .before .before .args .self .y / side 21 (c .before .before .before .before .before .before .args .self .level)) (c .before .before .before .before .before .before .args .self .kind))) (c .before .before .before .before .before .before .args .self .level) (c .before .before .before .loop .sum) (c .before .before .before .loop .i) (c .before .before .before .loop .x) (c .before .before .before .loop .y) (c .before .before .before .loop .kind) (c .before .before .before .loop .inv) (known 21 (c .before .before .before .before .before .before .args .self) (c .before .before .before .before .before .before .pre) .shallow) (c .before .slot-of .result) (c .before .slot-of .ensures) (c .before .before .loop-test .taken))
 
 returns : tie.Need-returns Inv-loop μ-loop
 unfolding triangleTo
@@ -109,7 +109,7 @@ rank-spec =
     cast-y
     shr-y
     loop-holds
-    place-of-requires
+    slot-of-requires
     cast-sum
     mul-sum
     cast-sum-2

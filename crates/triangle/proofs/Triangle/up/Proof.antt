@@ -5,9 +5,10 @@ use native.Mathlib.Nat.{mod-eq-of-lt, mod-mod}
 use borrow.Author.Needs.{needs}
 use Rattle.tree.specs.Anchors.{side}
 use Rattle.triangle.specs.Elements.{triangleTo}
-use Rattle.triangle.specs.Rows.{parentKind}
+use Rattle.rows.specs.declared.Slot.{Slot}
+use Rattle.rows.specs.Rows.{parentKind}
 use Rattle.triangle.proofs.Laws.{triangle-path}
-use Rattle.triangle.proofs.Tables.{step-path}
+use Rattle.rows.proofs.Tables.{step-path}
 use Rattle.triangle.proofs.Triangle.up.Statement.{statement}
 use Rattle.triangle.proofs.Triangle.up.Tie as tie
 
@@ -20,8 +21,8 @@ bit-requires c κs = search needs
 bit-requires-2 : tie.Need-bit-requires-2
 bit-requires-2 c κs = search needs
 
-place-of-requires : tie.Need-place-of-requires
-place-of-requires c κs = search needs
+slot-of-requires : tie.Need-slot-of-requires
+slot-of-requires c κs = search needs
 
 rounded-requires : tie.Need-rounded-requires
 rounded-requires c κs = search needs
@@ -36,7 +37,7 @@ returns c =
     let at-x = ap (λ (k : ℕ). k % 2) (c .before .before .before .before .bit .ensures) ∙ mod-mod (a .x / side 21 (a .level)) 2 in
     let at-y = ap (λ (k : ℕ). k % 2) (c .before .before .before .bit2 .ensures) ∙ mod-mod (a .y / side 21 (a .level)) 2 in
     triangle-path _ _ (c .before .rounded .ensures) (c .rounded2 .ensures) refl
-    (c .before .before .place-of .ensures .0 ∙ ap parentKind (step-path _ _ _ _ _ _ at-x at-y (mod-eq-of-lt (c .before .before .before .before .before .before .pre .1 .1))))
+    (ap (λ (s : Slot). s .kind) (c .before .before .slot-of .ensures) ∙ ap parentKind (step-path _ _ _ _ _ _ at-x at-y (mod-eq-of-lt (c .before .before .before .before .before .before .pre .1 .1))))
 
 pub up-spec : {M : Type 1} → statement M
 up-spec =
@@ -45,7 +46,7 @@ up-spec =
     sub-level
     bit-requires
     bit-requires-2
-    place-of-requires
+    slot-of-requires
     rounded-requires
     rounded-requires-2
     returns)

@@ -1,0 +1,3 @@
+pub mod Stretches
+pub mod Filling
+pub mod Starting

@@ -1,0 +1,37 @@
+-- The calls over C that lend memory: what each returns is the result of its outcome, and the memory is what that outcome leaves.
+-- Definitions only.
+--
+--   counted o        the result of a call whose value is how many entries or bytes it wrote
+--   UniformResult, AdaptResult, SharesResult, WriteResult, ReadResult, OrderResult
+--                    the contracts, of a call that returned r, found the memory m and left m′
+--
+-- Assumes nothing.
+use mathlib.Core.List.{List}
+use Prim.Native.Nat.{ℕ}
+use lib.ListN.{length}
+use Rattle.paper.specs.Outcome.{Outcome, mapped}
+use Rattle.paper.specs.Memory.{written, Fulfils}
+use Rattle.tree.specs.Anchors.{HIGHEST}
+use Rattle.leaves.specs.Leaves.{CHILDREN, Columns, front}
+use Rattle.leaves.specs.Calls.{uniform}
+use Rattle.adaption.specs.Calls.{adapt}
+use Rattle.shares.specs.Calls.{shares}
+use Rattle.results.specs.declared.NumberResult.{NumberResult}
+use Rattle.results.specs.Results.{numberResult, passResult}
+
+-- over C the result is its own reading
+abbrev itself : {A : Type 0} → A → A
+itself r = r
+
+abbrev pub counted : {A : Type 0} → Outcome (List A) → NumberResult
+counted o = numberResult (mapped length o)
+
+abbrev pub UniformResult : ℕ → ℕ → NumberResult → Columns → Columns → Type 0
+UniformResult k level r m m′ = Fulfils itself counted front (uniform CHILDREN HIGHEST k level m) r m m′
+
+abbrev pub AdaptResult : ℕ → NumberResult → Columns → List ℕ → Columns → Columns → Type 0
+AdaptResult k r cs marks m m′ = Fulfils itself counted front (adapt CHILDREN HIGHEST k cs marks m) r m m′
+
+abbrev pub SharesResult : ℕ → ℕ → ℕ → Columns → List ℕ → List ℕ → List ℕ → Type 0
+SharesResult k p r cs weights m m′ =
+    Fulfils itself (λ o. passResult (mapped (λ (boundaries : List ℕ). tt) o)) written (shares CHILDREN HIGHEST k p cs weights m) r m m′
