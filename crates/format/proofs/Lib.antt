@@ -11,3 +11,4 @@ pub mod Standing
 pub mod OneFile
 pub mod Units
 pub mod Spots
+pub mod Faults

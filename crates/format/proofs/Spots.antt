@@ -7,14 +7,13 @@ use native.Mathlib.Nat.{div-add-mod', div-lt-iff-lt-mul, div-eq-of-lt, mod-eq-of
 use native.Mathlib.Decide.{ℕ-discrete}
 use native.Mathlib.Omega.{arith}
 use lib.Dec.{ltb}
-use lib.Pow.{pow-pos}
+use lib.Pow.{pow-pos, pow-lt}
 use borrow.Author.Tests.{ne-eqb}
 use Rattle.tree.proofs.Digits.{power-bits}
 use Rattle.paper.specs.Outcome.{rows}
 use Rattle.leaves.specs.Leaves.{leaf, Spot, spotAt, span}
 use Rattle.leaves.proofs.Span.{power-pos, fill}
 use Rattle.leaves.proofs.Shift.{bits-le, bits-left, root-cells, shifted}
-use Rattle.leaves.proofs.Filling.{each-is}
 use Rattle.format.specs.Reading.{upto, fits, leavesFrom, endFrom}
 use Rattle.format.proofs.Units.{moved, after-moved, leaves-moved, fits-moved}
 
@@ -64,6 +63,9 @@ module _ (n L l K : ℕ) (positive : 0 < n) (shallow : l ≤ L) (c : Spot) where
         ∙ ap (upto K) (sym (after-is (suc k)))
 
 -- ---- the code's shifts
+each-is : (m : ℕ) → m < 64 → 1 * 2 ^ m % 2 ^ 64 ≡ 2 ^ m
+each-is m small = ap (λ (k : ℕ). k % 2 ^ 64) (one-mul (2 ^ m)) ∙ mod-eq-of-lt (pow-lt small)
+
 pub few-levels : (b L : ℕ) → 0 < b → b * L ≤ 63 → L ≤ 63
 few-levels b L some narrow = omega (arith, mul-le-mul-right L some, one-mul L)
 
@@ -96,7 +98,7 @@ module _ (b L l : ℕ) (narrow : b * L ≤ 63) (shallow : l ≤ L) where
     pub end-small : k < 2 ^ 32 → q / 2 ^ (b * (L - l)) + k < 2 ^ 64
     end-small few = omega (arith, root-cells b L narrow, div-le-self q (2 ^ (b * (L - l))))
 
-    pub root-small : r ≤ 4096 → k < 2 ^ 32 → r + (q / 2 ^ (b * (L - l)) + k) / 2 ^ (b * l) < 2 ^ 64
+    pub root-small : r ≤ 65535 → k < 2 ^ 32 → r + (q / 2 ^ (b * (L - l)) + k) / 2 ^ (b * l) < 2 ^ 64
     root-small low few =
         omega (arith, root-cells b L narrow, div-le-self q (2 ^ (b * (L - l))), div-le-self (q / 2 ^ (b * (L - l)) + k) (2 ^ (b * l)))
 

@@ -11,9 +11,10 @@ use Rattle.paper.specs.Outcome.{Outcome, accepted, refused, passed}
 use Rattle.paper.specs.Memory.{written, roomFor}
 use Rattle.paper.specs.Readings.{valueOf}
 use Rattle.paper.proofs.Memory.{refuses, accepts}
-use Rattle.leaves.specs.Leaves.{leaves}
+use Rattle.tree.specs.Anchors.{HIGHEST}
+use Rattle.leaves.specs.Leaves.{CHILDREN, Columns, leaves}
 use Rattle.leaves.specs.Laws.{ValidList}
-use Rattle.leaves.specs.Calls.{listed}
+use Rattle.leaves.specs.Calls.{limit, checkList}
 use Rattle.leaves.proofs.Listed.{columns-sound, listed-passed, listed-refused}
 use Rattle.numbers.specs.Numbers.{bytesOf}
 use Rattle.format.specs.File.{runBytes, tag, fileOf, runsIn}
@@ -24,31 +25,34 @@ use Rattle.writer.proofs.Writing.{level-runs-few, run-bytes-few, file-l
 use Rattle.numbers.proofs.Cases.{few-bytes}
 use Rattle.paper.specs.declared.NumberAnswer.the-variants as number
 
-module _ (k : ℕ) (rs ls ps bs : List ℕ) where
+module _ (k : ℕ) (cs : Columns) (bs : List ℕ) where
+  abbrev ls : List ℕ
+  ls = cs .levels
+
   abbrev call : Outcome (List ℕ)
-  call = write 8 21 k rs ls ps (length bs)
+  call = write CHILDREN HIGHEST k cs bs
 
-  pub leaves-refused : (fault spot : ℕ) → listed 8 21 k true true rs ls ps passed ≡ refused fault spot
-      → FileWritten k (number.Refused fault spot) rs ls ps bs bs
+  pub leaves-refused : (fault spot : ℕ) → checkList CHILDREN HIGHEST k cs ≡ refused fault spot
+      → FileWritten k (number.Refused fault spot) cs bs bs
   leaves-refused fault spot h =
-      refuses valueOf (λ (file : List ℕ). length file) written call (number.Refused fault spot) bs fault spot
-      (listed-refused 8 21 k true true rs ls ps _ fault spot h) refl
+      refuses valueOf length written call (number.Refused fault spot) bs fault spot
+      (listed-refused CHILDREN HIGHEST k true true cs _ fault spot h) refl
 
-  module _ (sound : listed 8 21 k true true rs ls ps passed ≡ passed) where
-    columns-of : ValidList 8 21 k rs ls ps
-    columns-of = columns-sound 8 21 k true true rs ls ps sound
+  module _ (sound : checkList CHILDREN HIGHEST k cs ≡ passed) where
+    columns-of : ValidList CHILDREN HIGHEST k cs
+    columns-of = columns-sound CHILDREN HIGHEST k true true cs sound
 
-    pub few-levels : length ls ≤ 1048576
+    pub few-levels : length ls ≤ limit
     few-levels = omega (arith, columns-of .few, columns-of .levels-long)
 
-    file : fileOf k (leaves rs ls ps) ≡ levelFile k ls
-    file = file-levels rs ls ps k (columns-of .levels-long)
+    file : fileOf k (leaves cs) ≡ levelFile k ls
+    file = file-levels cs k (columns-of .levels-long)
 
     onward : call ≡ roomFor (length (levelFile k ls)) (length bs) (levelFile k ls)
-    onward = listed-passed 8 21 k true true rs ls ps _ sound ∙ ap (λ (f : List ℕ). roomFor (length f) (length bs) f) file
+    onward = listed-passed CHILDREN HIGHEST k true true cs _ sound ∙ ap (λ (f : List ℕ). roomFor (length f) (length bs) f) file
 
     module _ (R b : ℕ) (c : Counted ls R b) where
-      pub few-runs : (R ≤ 1048576) × (b ≤ 6291456)
+      pub few-runs : (R ≤ limit) × (b ≤ 6291456)
       few-runs =
           let few = few-levels in
           let one = level-runs-few ls in
@@ -72,9 +76,9 @@ module _ (k : ℕ) (rs ls ps bs : List ℕ) where
               length-append count pairs,
             )
 
-        pub no-room-14 : length bs < 4 + m + u + b → FileWritten k (number.Refused 14 (4 + m + u + b)) rs ls ps bs bs
+        pub no-room-14 : length bs < 4 + m + u + b → FileWritten k (number.Refused 14 (4 + m + u + b)) cs bs bs
         no-room-14 short =
-            refuses valueOf (λ (f : List ℕ). length f) written call (number.Refused 14 (4 + m + u + b)) bs 14 (4 + m + u + b)
+            refuses valueOf length written call (number.Refused 14 (4 + m + u + b)) bs 14 (4 + m + u + b)
             (onward
             ∙ stops (ltb (length bs) (length (levelFile k ls))) 14 (length (levelFile k ls)) _ (lt-ltb (length bs) (length (levelFile k ls)) (omega (arith, size-is)))
             ∙ ap (refused 14) (sym size-is))
@@ -84,7 +88,7 @@ module _ (k : ℕ) (rs ls ps bs : List ℕ) where
           pub room : length (levelFile k ls) ≤ length bs
           room = omega (arith, size-is)
 
-          pub file-written : {bs′ : List ℕ} → bs′ ≡ written (levelFile k ls) bs → FileWritten k (number.Is (4 + m + u + b)) rs ls ps bs bs′
+          pub file-written : {bs′ : List ℕ} → bs′ ≡ written (levelFile k ls) bs → FileWritten k (number.Is (4 + m + u + b)) cs bs bs′
           file-written {bs′} put =
-              accepts valueOf (λ (f : List ℕ). length f) written call (number.Is (4 + m + u + b)) bs (levelFile k ls) bs′
+              accepts valueOf length written call (number.Is (4 + m + u + b)) bs (levelFile k ls) bs′
               (onward ∙ simp (le-ltb (length bs) (length (levelFile k ls)) room)) (ap accepted size-is) put

@@ -10,7 +10,7 @@ use native.Mathlib.Omega.{arith}
 use lib.ListN.{length, drop, getD, length-append, drop-of-length-le}
 use lib.Seq.{drop-cons}
 use Rattle.paper.specs.Outcome.{rows}
-use Rattle.leaves.specs.Leaves.{leafAt, leaves}
+use Rattle.leaves.specs.Leaves.{Columns, leafAt, leaves}
 use Rattle.numbers.specs.Numbers.{bytesOf}
 use Rattle.format.specs.File.{sameKey, Run, run, joinRun, runsIn, runsOf, runBytes, runsFile, fileOf, Differs}
 use Rattle.writer.specs.Inner.{levelFile, RunEnd, Counted}
@@ -121,13 +121,12 @@ module _ (ls : List ℕ) where
         }
 
 -- ---- the list that stands in three columns
-module _ (rs ls ps : List ℕ) where
-  runs-rows : (k i : ℕ) → i + k ≡ length ls → runsOf (rows (leafAt rs ls ps) i k) ≡ runsIn (drop i ls)
+module _ (cs : Columns) where
+  runs-rows : (k i : ℕ) → i + k ≡ length (cs .levels) → runsOf (rows (leafAt cs) i k) ≡ runsIn (drop i (cs .levels))
   unfolding runsIn
-  runs-rows zero i ends = sym (ap runsIn (drop-of-length-le ls {i = i} (omega arith)))
+  runs-rows zero i ends = sym (ap runsIn (drop-of-length-le (cs .levels) {i = i} (omega arith)))
   runs-rows (suc k) i ends =
-      ap (joinRun (getD ls i 0)) (runs-rows k (suc i) (omega arith)) ∙ sym (ap runsIn (drop-cons ls i 0 (omega arith)))
+      ap (joinRun (getD (cs .levels) i 0)) (runs-rows k (suc i) (omega arith)) ∙ sym (ap runsIn (drop-cons (cs .levels) i 0 (omega arith)))
 
-  pub file-levels : (K : ℕ) → length rs ≡ length ls → fileOf K (leaves rs ls ps) ≡ levelFile K ls
-  file-levels K long =
-      ap (runsFile K) (runs-rows (length rs) 0 (omega arith))
+  pub file-levels : (K : ℕ) → length (cs .roots) ≡ length (cs .levels) → fileOf K (leaves cs) ≡ levelFile K (cs .levels)
+  file-levels K long = ap (runsFile K) (runs-rows (length (cs .roots)) 0 (omega arith))

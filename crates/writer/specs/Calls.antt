@@ -2,8 +2,8 @@
 --
 --   "List calls: 17, 11, then each leaf in turn 1, 5, 12 ..; then .. 14"; 14 no room, place = bytes needed
 --
---   write          the call: the file of the list. room is the length of the lent bytes
---   FileWritten    the contract of writing: it answers how many bytes the file has, and puts it at the front of the lent bytes
+--   write          the call, of the list in the columns cs, into lent bytes: its file
+--   FileWritten    the contract of the call: it answers how many bytes the file has
 --
 -- Assumes nothing.
 use mathlib.Core.Bool.{true}
@@ -14,16 +14,15 @@ use Rattle.paper.specs.Outcome.{Outcome, mapped}
 use Rattle.paper.specs.Memory.{written, roomFor, Fulfils}
 use Rattle.paper.specs.Readings.{valueOf}
 use Rattle.paper.specs.declared.NumberAnswer.{NumberAnswer}
-use Rattle.leaves.specs.Leaves.{leaves}
+use Rattle.tree.specs.Anchors.{HIGHEST}
+use Rattle.leaves.specs.Leaves.{CHILDREN, Columns, leaves}
 use Rattle.leaves.specs.Calls.{listed}
 use Rattle.format.specs.File.{fileOf}
 
-abbrev pub write : ℕ → ℕ → ℕ → List ℕ → List ℕ → List ℕ → ℕ → Outcome (List ℕ)
-write n L K roots levels positions room =
-    let file : List ℕ = fileOf K (leaves roots levels positions) in
-    listed n L K true true roots levels positions
-    (roomFor (length file) room file)
+abbrev pub write : ℕ → ℕ → ℕ → Columns → List ℕ → Outcome (List ℕ)
+write n L K cs bytes =
+    listed n L K true true cs
+    (roomFor (length (fileOf K (leaves cs))) (length bytes) (fileOf K (leaves cs)))
 
-abbrev pub FileWritten : ℕ → NumberAnswer → List ℕ → List ℕ → List ℕ → List ℕ → List ℕ → Type 0
-FileWritten k r roots levels positions bytes bytes′ =
-    Fulfils valueOf (mapped (λ (file : List ℕ). length file)) written (write 8 21 k roots levels positions (length bytes)) r bytes bytes′
+abbrev pub FileWritten : ℕ → NumberAnswer → Columns → List ℕ → List ℕ → Type 0
+FileWritten k r cs bytes bytes′ = Fulfils valueOf (mapped length) written (write CHILDREN HIGHEST k cs bytes) r bytes bytes′

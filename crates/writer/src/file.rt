@@ -13,7 +13,9 @@ ghost use Rattle.writer.specs.Inner.{levelFile};
 
 // The file of a list of k roots with these levels: the tag, K, R, then the pairs of the runs.
 pub(crate) fn put_file(k: u16, runs: u32, levels: &[u8], bytes: &mut [u8])
-    requires { ⌜ (length (now levels) ≤ limit) × ((runs ≡ length (runsIn (now levels))) × (length (levelFile k (now levels)) ≤ length (now bytes))) ⌝ }
+    requires { ⌜ length (now levels) ≤ limit ⌝ }
+    requires { ⌜ runs ≡ length (runsIn (now levels)) ⌝ }
+    requires { ⌜ length (levelFile k (now levels)) ≤ length (now bytes) ⌝ }
     ensures { λ _. ⌜ now (bytes .exit) ≡ written (levelFile k (now (levels .entry))) (now (bytes .entry)) ⌝ }
 {
     let tag = TAG;
@@ -29,7 +31,8 @@ pub(crate) fn put_file(k: u16, runs: u32, levels: &[u8], bytes: &mut [u8])
 
 // The pairs of the runs, level and count, stored from an offset on.
 fn put_runs(levels: &[u8], start: usize, bytes: &mut [u8])
-    requires { ⌜ (length (now levels) ≤ limit) × (start + length (runBytes (runsIn (now levels))) ≤ length (now bytes)) ⌝ }
+    requires { ⌜ length (now levels) ≤ limit ⌝ }
+    requires { ⌜ start + length (runBytes (runsIn (now levels))) ≤ length (now bytes) ⌝ }
     ensures { λ _. ⌜ now (bytes .exit) ≡ sets (now (bytes .entry)) start (runBytes (runsIn (now (levels .entry)))) ⌝ }
 {
     let mut at = start;

@@ -1,6 +1,7 @@
 // The grid file written: the runs of a list as bytes.
 use paper::NumberAnswer;
 use paper::PassAnswer;
+ghost use Rattle.leaves.specs.Leaves.{columns};
 ghost use Rattle.writer.specs.Calls.{FileWritten};
 
 mod file;
@@ -15,7 +16,9 @@ pub fn write(
     positions: &[u64],
     bytes: &mut [u8],
 ) -> NumberAnswer
-    ensures { λ r. ⌜ FileWritten k r (now (roots .entry)) (now (levels .entry)) (now (positions .entry)) (now (bytes .entry)) (now (bytes .exit)) ⌝ }
+    ensures { λ r. ⌜ FileWritten k r
+        (columns (now (roots .entry)) (now (levels .entry)) (now (positions .entry)))
+        (now (bytes .entry)) (now (bytes .exit)) ⌝ }
 {
     if let PassAnswer::Refused(number, place) = leaves::check_list(k, roots, levels, positions) {
         return NumberAnswer::Refused(number, place);

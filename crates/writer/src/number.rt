@@ -7,7 +7,8 @@ ghost use Rattle.numbers.specs.Numbers.{highest, bytesOf};
 
 // The bytes of a number, stored from an offset on.
 pub(crate) fn put(v: u32, at: usize, bytes: &mut [u8])
-    requires { ⌜ (v ≤ highest) × (at + length (bytesOf v) ≤ length (now bytes)) ⌝ }
+    requires { ⌜ v ≤ highest ⌝ }
+    requires { ⌜ at + length (bytesOf v) ≤ length (now bytes) ⌝ }
     ensures { λ _. ⌜ now (bytes .exit) ≡ sets (now (bytes .entry)) at (bytesOf v) ⌝ }
 {
     if v < 128 {

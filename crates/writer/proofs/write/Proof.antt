@@ -4,6 +4,7 @@ use native.Mathlib.Omega.{arith}
 use borrow.Author.Needs.{needs}
 use Rattle.paper.specs.Readings.{passOf}
 use Rattle.numbers.proofs.Cases.{few-bytes}
+use Rattle.leaves.specs.Leaves.{columns}
 use Rattle.writer.proofs.Filed.{leaves-refused, few-levels, size-few, no-room-14, room, file-written}
 use Rattle.writer.proofs.write.Statement.{statement}
 use Rattle.writer.proofs.write.Tie as tie
@@ -15,13 +16,19 @@ enum-known-number : tie.Need-enum-known-number
 enum-known-number c = search needs
 
 returns : tie.Need-returns
-returns c = leaves-refused (c .before .before .before .before .before .before .before .before .args .k) (c .before .before .before .before .before .before .before .before .args .roots .now) (c .before .before .before .before .before .before .before .before .args .levels .now) (c .before .before .before .before .before .before .before .before .args .positions .now) (c .before .before .before .before .before .before .before .before .args .bytes .now) _ _ (sym (c .before .before .before .check-list .ensures) ∙ ap passOf (c .before .number .given .1))
+returns c =
+    let start = c .before .before .before .before .before .before .before .before in
+    let a = start .args in
+    leaves-refused (a .k) (columns (a .roots .now) (a .levels .now) (a .positions .now)) (a .bytes .now) _ _ (sym (c .before .before .before .check-list .ensures) ∙ ap passOf (c .before .number .given .1))
 
 enum-told : tie.Need-enum-told
 enum-told c = search needs
 
 count-requires : tie.Need-count-requires
-count-requires c κs = few-levels (c .before .before .before .before .before .before .before .args .k) (c .before .before .before .before .before .before .before .args .roots .now) (c .before .before .before .before .before .before .before .args .levels .now) (c .before .before .before .before .before .before .before .args .positions .now) (c .before .before .before .before .before .before .before .args .bytes .now) (sym (c .before .before .check-list .ensures) ∙ ap passOf (c .enum-told .given .1))
+count-requires c κs =
+    let start = c .before .before .before .before .before .before .before in
+    let a = start .args in
+    few-levels (a .k) (columns (a .roots .now) (a .levels .now) (a .positions .now)) (a .bytes .now) (sym (c .before .before .check-list .ensures) ∙ ap passOf (c .enum-told .given .1))
 
 size-requires : tie.Need-size-requires
 size-requires c κs = search needs
@@ -33,22 +40,37 @@ size-requires-2 : tie.Need-size-requires-2
 size-requires-2 c κs = search needs
 
 add-size-2 : tie.Need-add-size-2
-add-size-2 c = omega (arith, size-few (c .before .before .before .before .before .before .before .before .before .before .args .k) (c .before .before .before .before .before .before .before .before .before .before .args .roots .now) (c .before .before .before .before .before .before .before .before .before .before .args .levels .now) (c .before .before .before .before .before .before .before .before .before .before .args .positions .now) (c .before .before .before .before .before .before .before .before .before .before .args .bytes .now) (sym (c .before .before .before .before .before .check-list .ensures) ∙ ap passOf (c .before .before .before .enum-told .given .1)) (c .before .before .count .result .count) (c .before .before .count .result .bytes) (c .before .before .count .ensures) (c .before .size .result) (c .size2 .result) (c .before .size .ensures) (c .size2 .ensures))
+add-size-2 c =
+    let start = c .before .before .before .before .before .before .before .before .before .before in
+    let a = start .args in
+    omega (arith, size-few (a .k) (columns (a .roots .now) (a .levels .now) (a .positions .now)) (a .bytes .now) (sym (c .before .before .before .before .before .check-list .ensures) ∙ ap passOf (c .before .before .before .enum-told .given .1)) (c .before .before .count .result .count) (c .before .before .count .result .bytes) (c .before .before .count .ensures) (c .before .size .result) (c .size2 .result) (c .before .size .ensures) (c .size2 .ensures))
 
 add-size-3 : tie.Need-add-size-3
-add-size-3 c = omega (arith, size-few (c .before .before .before .before .before .before .before .before .before .before .before .args .k) (c .before .before .before .before .before .before .before .before .before .before .before .args .roots .now) (c .before .before .before .before .before .before .before .before .before .before .before .args .levels .now) (c .before .before .before .before .before .before .before .before .before .before .before .args .positions .now) (c .before .before .before .before .before .before .before .before .before .before .before .args .bytes .now) (sym (c .before .before .before .before .before .before .check-list .ensures) ∙ ap passOf (c .before .before .before .before .enum-told .given .1)) (c .before .before .before .count .result .count) (c .before .before .before .count .result .bytes) (c .before .before .before .count .ensures) (c .before .before .size .result) (c .before .size2 .result) (c .before .before .size .ensures) (c .before .size2 .ensures))
+add-size-3 c =
+    let start = c .before .before .before .before .before .before .before .before .before .before .before in
+    let a = start .args in
+    omega (arith, size-few (a .k) (columns (a .roots .now) (a .levels .now) (a .positions .now)) (a .bytes .now) (sym (c .before .before .before .before .before .before .check-list .ensures) ∙ ap passOf (c .before .before .before .before .enum-told .given .1)) (c .before .before .before .count .result .count) (c .before .before .before .count .result .bytes) (c .before .before .before .count .ensures) (c .before .before .size .result) (c .before .size2 .result) (c .before .before .size .ensures) (c .before .size2 .ensures))
 
 returns-2 : tie.Need-returns-2
-returns-2 c = no-room-14 (c .before .before .before .before .before .before .before .before .before .before .before .before .args .k) (c .before .before .before .before .before .before .before .before .before .before .before .before .args .roots .now) (c .before .before .before .before .before .before .before .before .before .before .before .before .args .levels .now) (c .before .before .before .before .before .before .before .before .before .before .before .before .args .positions .now) (c .before .before .before .before .before .before .before .before .before .before .before .before .args .bytes .now) (sym (c .before .before .before .before .before .before .before .check-list .ensures) ∙ ap passOf (c .before .before .before .before .before .enum-told .given .1)) (c .before .before .before .before .count .result .count) (c .before .before .before .before .count .result .bytes) (c .before .before .before .before .count .ensures) (c .before .before .before .size .result) (c .before .before .size2 .result) (c .before .before .before .size .ensures) (c .before .before .size2 .ensures) (omega (arith, (c .if1 .taken)))
+returns-2 c =
+    let start = c .before .before .before .before .before .before .before .before .before .before .before .before in
+    let a = start .args in
+    no-room-14 (a .k) (columns (a .roots .now) (a .levels .now) (a .positions .now)) (a .bytes .now) (sym (c .before .before .before .before .before .before .before .check-list .ensures) ∙ ap passOf (c .before .before .before .before .before .enum-told .given .1)) (c .before .before .before .before .count .result .count) (c .before .before .before .before .count .result .bytes) (c .before .before .before .before .count .ensures) (c .before .before .before .size .result) (c .before .before .size2 .result) (c .before .before .before .size .ensures) (c .before .before .size2 .ensures) (omega (arith, (c .if1 .taken)))
 
 put-file-requires : tie.Need-put-file-requires
-put-file-requires c κs = (few-levels (c .before .before .before .before .before .before .before .before .before .before .before .before .before .args .k) (c .before .before .before .before .before .before .before .before .before .before .before .before .before .args .roots .now) (c .before .before .before .before .before .before .before .before .before .before .before .before .before .args .levels .now) (c .before .before .before .before .before .before .before .before .before .before .before .before .before .args .positions .now) (c .before .before .before .before .before .before .before .before .before .before .before .before .before .args .bytes .now) (sym (c .before .before .before .before .before .before .before .before .check-list .ensures) ∙ ap passOf (c .before .before .before .before .before .before .enum-told .given .1)), ((c .before .before .before .before .before .count .ensures .runs), room (c .before .before .before .before .before .before .before .before .before .before .before .before .before .args .k) (c .before .before .before .before .before .before .before .before .before .before .before .before .before .args .roots .now) (c .before .before .before .before .before .before .before .before .before .before .before .before .before .args .levels .now) (c .before .before .before .before .before .before .before .before .before .before .before .before .before .args .positions .now) (c .before .before .before .before .before .before .before .before .before .before .before .before .before .args .bytes .now) (sym (c .before .before .before .before .before .before .before .before .check-list .ensures) ∙ ap passOf (c .before .before .before .before .before .before .enum-told .given .1)) (c .before .before .before .before .before .count .result .count) (c .before .before .before .before .before .count .result .bytes) (c .before .before .before .before .before .count .ensures) (c .before .before .before .before .size .result) (c .before .before .before .size2 .result) (c .before .before .before .before .size .ensures) (c .before .before .before .size2 .ensures) (omega (arith, (c .before .if1 .left)))))
+put-file-requires c κs =
+    let start = c .before .before .before .before .before .before .before .before .before .before .before .before .before in
+    let a = start .args in
+    (few-levels (a .k) (columns (a .roots .now) (a .levels .now) (a .positions .now)) (a .bytes .now) (sym (c .before .before .before .before .before .before .before .before .check-list .ensures) ∙ ap passOf (c .before .before .before .before .before .before .enum-told .given .1)), ((c .before .before .before .before .before .count .ensures .runs), room (a .k) (columns (a .roots .now) (a .levels .now) (a .positions .now)) (a .bytes .now) (sym (c .before .before .before .before .before .before .before .before .check-list .ensures) ∙ ap passOf (c .before .before .before .before .before .before .enum-told .given .1)) (c .before .before .before .before .before .count .result .count) (c .before .before .before .before .before .count .result .bytes) (c .before .before .before .before .before .count .ensures) (c .before .before .before .before .size .result) (c .before .before .before .size2 .result) (c .before .before .before .before .size .ensures) (c .before .before .before .size2 .ensures) (omega (arith, (c .before .if1 .left)))))
 
 same-length : tie.Need-same-length
 same-length c = search needs
 
 returns-3 : tie.Need-returns-3
-returns-3 c = file-written (c .before .before .before .before .before .before .before .before .before .before .before .before .before .before .before .before .args .k) (c .before .before .before .before .before .before .before .before .before .before .before .before .before .before .before .before .args .roots .now) (c .before .before .before .before .before .before .before .before .before .before .before .before .before .before .before .before .args .levels .now) (c .before .before .before .before .before .before .before .before .before .before .before .before .before .before .before .before .args .positions .now) (c .before .before .before .before .before .before .before .before .before .before .before .before .before .before .before .before .args .bytes .now) (sym (c .before .before .before .before .before .before .before .before .before .before .before .check-list .ensures) ∙ ap passOf (c .before .before .before .before .before .before .before .before .before .enum-told .given .1)) (c .before .before .before .before .before .before .before .before .count .result .count) (c .before .before .before .before .before .before .before .before .count .result .bytes) (c .before .before .before .before .before .before .before .before .count .ensures) (c .before .before .before .before .before .before .before .size .result) (c .before .before .before .before .before .before .size2 .result) (c .before .before .before .before .before .before .before .size .ensures) (c .before .before .before .before .before .before .size2 .ensures) (omega (arith, (c .before .before .before .before .if1 .left))) (c .before .before .put-file .ensures)
+returns-3 c =
+    let start = c .before .before .before .before .before .before .before .before .before .before .before .before .before .before .before .before in
+    let a = start .args in
+    file-written (a .k) (columns (a .roots .now) (a .levels .now) (a .positions .now)) (a .bytes .now) (sym (c .before .before .before .before .before .before .before .before .before .before .before .check-list .ensures) ∙ ap passOf (c .before .before .before .before .before .before .before .before .before .enum-told .given .1)) (c .before .before .before .before .before .before .before .before .count .result .count) (c .before .before .before .before .before .before .before .before .count .result .bytes) (c .before .before .before .before .before .before .before .before .count .ensures) (c .before .before .before .before .before .before .before .size .result) (c .before .before .before .before .before .before .size2 .result) (c .before .before .before .before .before .before .before .size .ensures) (c .before .before .before .before .before .before .size2 .ensures) (omega (arith, (c .before .before .before .before .if1 .left))) (c .before .before .put-file .ensures)
 
 pub write-spec : {M : Type 1} → statement M
 write-spec =

@@ -14,7 +14,10 @@ abbrev μ-loop : tie.MeasureT-loop
 μ-loop levels start bytes₀ at₀ i₀ bytes at i = length levels - i
 
 loop-holds : tie.Need-loop-holds Inv-loop μ-loop
-loop-holds c = stored-none (c .before .before .args .levels .now) (c .before .before .args .start) (c .before .before .args .bytes .now) (c .before .before .pre .1)
+loop-holds c =
+    let start = c .before .before in
+    let a = start .args in
+    stored-none (a .levels .now) (a .start) (a .bytes .now) (start .pre .1)
 
 end-requires : tie.Need-end-requires Inv-loop μ-loop
 end-requires c κs = (c .loop-test .taken)
@@ -32,34 +35,58 @@ cast-count : tie.Need-cast-count Inv-loop μ-loop
 cast-count c = omega (arith, (c .before .end .ensures .alike .within), (c .before .before .before .before .before .before .pre .0))
 
 put-requires : tie.Need-put-requires Inv-loop μ-loop
-put-requires c κs = (omega (arith, (c .before .shared-slice-known2 .given) (c .before .before .before .before .loop .i)), omega (arith, room-run (c .before .before .before .before .before .before .before .args .levels .now) (c .before .before .before .before .before .before .before .args .start) (c .before .before .before .before .before .before .before .args .bytes .now) (c .before .before .before .before .loop .i) (c .before .before .before .before .loop .at) (c .before .before .before .before .loop .bytes) (c .before .before .before .before .loop .inv) (c .before .before .end .result) (c .before .before .end .ensures)))
+put-requires c κs =
+    let at-loop = c .before .before .before .before in
+    let start = at-loop .before .before .before in
+    let a = start .args in
+    (omega (arith, (c .before .shared-slice-known2 .given) (at-loop .loop .i)), omega (arith, room-run (a .levels .now) (a .start) (a .bytes .now) (at-loop .loop .i) (at-loop .loop .at) (at-loop .loop .bytes) (at-loop .loop .inv) (c .before .before .end .result) (c .before .before .end .ensures)))
 
 size-requires : tie.Need-size-requires Inv-loop μ-loop
 size-requires c κs = search needs
 
 add-at : tie.Need-add-at Inv-loop μ-loop
-add-at c = omega (arith, (c .size .ensures), room-run (c .before .before .before .before .before .before .before .before .before .before .before .args .levels .now) (c .before .before .before .before .before .before .before .before .before .before .before .args .start) (c .before .before .before .before .before .before .before .before .before .before .before .args .bytes .now) (c .before .before .before .before .before .before .before .before .loop .i) (c .before .before .before .before .before .before .before .before .loop .at) (c .before .before .before .before .before .before .before .before .loop .bytes) (c .before .before .before .before .before .before .before .before .loop .inv) (c .before .before .before .before .before .before .end .result) (c .before .before .before .before .before .before .end .ensures))
+add-at c =
+    let at-loop = c .before .before .before .before .before .before .before .before in
+    let start = at-loop .before .before .before in
+    let a = start .args in
+    omega (arith, (c .size .ensures), room-run (a .levels .now) (a .start) (a .bytes .now) (at-loop .loop .i) (at-loop .loop .at) (at-loop .loop .bytes) (at-loop .loop .inv) (c .before .before .before .before .before .before .end .result) (c .before .before .before .before .before .before .end .ensures))
 
 put-requires-2 : tie.Need-put-requires-2 Inv-loop μ-loop
-put-requires-2 c κs = (omega (arith, (c .before .before .before .before .before .before .before .end .ensures .alike .within), (c .before .before .before .before .before .before .before .before .before .before .before .before .pre .0)), room-count (c .before .before .before .before .before .before .before .before .before .before .before .before .args .levels .now) (c .before .before .before .before .before .before .before .before .before .before .before .before .args .start) (c .before .before .before .before .before .before .before .before .before .before .before .before .args .bytes .now) (c .before .before .before .before .before .before .before .before .before .loop .i) (c .before .before .before .before .before .before .before .before .before .loop .at) (c .before .before .before .before .before .before .before .before .before .loop .bytes) (c .before .before .before .before .before .before .before .before .before .loop .inv) (c .before .before .before .before .before .before .before .end .result) (c .before .before .before .before .before .before .before .end .ensures) (c .before .size .result) (c .before .size .ensures) (c .before .before .before .before .put .ensures))
+put-requires-2 c κs =
+    let at-loop = c .before .before .before .before .before .before .before .before .before in
+    let start = at-loop .before .before .before in
+    let a = start .args in
+    (omega (arith, (c .before .before .before .before .before .before .before .end .ensures .alike .within), (start .pre .0)), room-count (a .levels .now) (a .start) (a .bytes .now) (at-loop .loop .i) (at-loop .loop .at) (at-loop .loop .bytes) (at-loop .loop .inv) (c .before .before .before .before .before .before .before .end .result) (c .before .before .before .before .before .before .before .end .ensures) (c .before .size .result) (c .before .size .ensures) (c .before .before .before .before .put .ensures))
 
 size-requires-2 : tie.Need-size-requires-2 Inv-loop μ-loop
 size-requires-2 c κs = search needs
 
 add-at-2 : tie.Need-add-at-2 Inv-loop μ-loop
-add-at-2 c = omega (arith, (c .before .before .before .before .before .size .ensures), (c .size2 .ensures), room-run (c .before .before .before .before .before .before .before .before .before .before .before .before .before .before .before .before .args .levels .now) (c .before .before .before .before .before .before .before .before .before .before .before .before .before .before .before .before .args .start) (c .before .before .before .before .before .before .before .before .before .before .before .before .before .before .before .before .args .bytes .now) (c .before .before .before .before .before .before .before .before .before .before .before .before .before .loop .i) (c .before .before .before .before .before .before .before .before .before .before .before .before .before .loop .at) (c .before .before .before .before .before .before .before .before .before .before .before .before .before .loop .bytes) (c .before .before .before .before .before .before .before .before .before .before .before .before .before .loop .inv) (c .before .before .before .before .before .before .before .before .before .before .before .end .result) (c .before .before .before .before .before .before .before .before .before .before .before .end .ensures))
+add-at-2 c =
+    let at-loop = c .before .before .before .before .before .before .before .before .before .before .before .before .before in
+    let start = at-loop .before .before .before in
+    let a = start .args in
+    omega (arith, (c .before .before .before .before .before .size .ensures), (c .size2 .ensures), room-run (a .levels .now) (a .start) (a .bytes .now) (at-loop .loop .i) (at-loop .loop .at) (at-loop .loop .bytes) (at-loop .loop .inv) (c .before .before .before .before .before .before .before .before .before .before .before .end .result) (c .before .before .before .before .before .before .before .before .before .before .before .end .ensures))
 
 loop-less : tie.Need-loop-less Inv-loop μ-loop
 loop-less c = omega (arith, (c .before .before .before .before .before .before .before .before .before .before .before .end .ensures .alike .some), (c .before .before .before .before .before .before .before .before .before .before .before .end .ensures .alike .within))
 
 loop-again : tie.Need-loop-again Inv-loop μ-loop
-loop-again c = stored-next (c .before .before .before .before .before .before .before .before .before .before .before .before .before .before .before .before .args .levels .now) (c .before .before .before .before .before .before .before .before .before .before .before .before .before .before .before .before .args .start) (c .before .before .before .before .before .before .before .before .before .before .before .before .before .before .before .before .args .bytes .now) (c .before .before .before .before .before .before .before .before .before .before .before .before .before .loop .i) (c .before .before .before .before .before .before .before .before .before .before .before .before .before .loop .at) (c .before .before .before .before .before .before .before .before .before .before .before .before .before .loop .bytes) (c .before .before .before .before .before .before .before .before .before .before .before .before .before .loop .inv) (c .before .before .before .before .before .before .before .before .before .before .before .end .result) (c .before .before .before .before .before .before .before .before .before .before .before .end .ensures) (c .before .before .before .before .before .size .result) (c .before .before .before .before .before .size .ensures) (c .before .before .before .before .before .before .before .before .put .ensures) (c .size2 .result) (c .size2 .ensures) (c .before .before .before .put2 .ensures)
+loop-again c =
+    let at-loop = c .before .before .before .before .before .before .before .before .before .before .before .before .before in
+    let start = at-loop .before .before .before in
+    let a = start .args in
+    stored-next (a .levels .now) (a .start) (a .bytes .now) (at-loop .loop .i) (at-loop .loop .at) (at-loop .loop .bytes) (at-loop .loop .inv) (c .before .before .before .before .before .before .before .before .before .before .before .end .result) (c .before .before .before .before .before .before .before .before .before .before .before .end .ensures) (c .before .before .before .before .before .size .result) (c .before .before .before .before .before .size .ensures) (c .before .before .before .before .before .before .before .before .put .ensures) (c .size2 .result) (c .size2 .ensures) (c .before .before .before .put2 .ensures)
 
 same-length : tie.Need-same-length Inv-loop μ-loop
 same-length c = (c .before .loop .inv .long)
 
 returns : tie.Need-returns Inv-loop μ-loop
-returns c = stored-done (c .before .before .before .before .args .levels .now) (c .before .before .before .before .args .start) (c .before .before .before .before .args .bytes .now) (c .before .loop .i) (c .before .loop .at) (c .before .loop .bytes) (c .before .loop .inv) (c .loop-test .left)
+returns c =
+    let at-loop = c .before in
+    let start = at-loop .before .before .before in
+    let a = start .args in
+    stored-done (a .levels .now) (a .start) (a .bytes .now) (at-loop .loop .i) (at-loop .loop .at) (at-loop .loop .bytes) (at-loop .loop .inv) (c .loop-test .left)
 
 pub put-runs-spec : {M : Type 1} → statement M
 put-runs-spec =

@@ -10,13 +10,19 @@ cast-bytes : tie.Need-cast-bytes
 cast-bytes c = search needs
 
 slice-write-bytes : tie.Need-slice-write-bytes
-slice-write-bytes c = room-some (c .before .args .v) (c .before .args .at) (c .before .args .bytes .now) (c .before .pre .1)
+slice-write-bytes c =
+    let start = c .before in
+    let a = start .args in
+    room-some (a .v) (a .at) (a .bytes .now) (start .pre .1)
 
 same-length : tie.Need-same-length
 same-length c = search needs
 
 returns : tie.Need-returns
-returns c = stored-one (c .before .args .v) (c .before .args .at) (c .before .args .bytes .now) (c .if1 .taken)
+returns c =
+    let start = c .before in
+    let a = start .args in
+    stored-one (a .v) (a .at) (a .bytes .now) (c .if1 .taken)
 
 add-bytes : tie.Need-add-bytes
 add-bytes c = search needs
@@ -25,7 +31,10 @@ cast-bytes-2 : tie.Need-cast-bytes-2
 cast-bytes-2 c = search needs
 
 slice-write-bytes-2 : tie.Need-slice-write-bytes-2
-slice-write-bytes-2 c = room-some (c .before .args .v) (c .before .args .at) (c .before .args .bytes .now) (c .before .pre .1)
+slice-write-bytes-2 c =
+    let start = c .before in
+    let a = start .args in
+    room-some (a .v) (a .at) (a .bytes .now) (start .pre .1)
 
 cast-bytes-3 : tie.Need-cast-bytes-3
 cast-bytes-3 c = search needs
@@ -34,13 +43,19 @@ add-bytes-2 : tie.Need-add-bytes-2
 add-bytes-2 c = search needs
 
 slice-write-bytes-3 : tie.Need-slice-write-bytes-3
-slice-write-bytes-3 c = simp length-set (room-two (c .before .before .args .v) (c .before .before .args .at) (c .before .before .args .bytes .now) (c .before .if1 .left) (c .if2 .taken) (c .before .before .pre .1))
+slice-write-bytes-3 c =
+    let start = c .before .before in
+    let a = start .args in
+    simp length-set (room-two (a .v) (a .at) (a .bytes .now) (c .before .if1 .left) (c .if2 .taken) (start .pre .1))
 
 same-length-2 : tie.Need-same-length-2
 same-length-2 c = search needs
 
 returns-2 : tie.Need-returns-2
-returns-2 c = stored-two (c .before .before .args .v) (c .before .before .args .at) (c .before .before .args .bytes .now) (c .before .if1 .left) (c .if2 .taken)
+returns-2 c =
+    let start = c .before .before in
+    let a = start .args in
+    stored-two (a .v) (a .at) (a .bytes .now) (c .before .if1 .left) (c .if2 .taken)
 
 add-bytes-3 : tie.Need-add-bytes-3
 add-bytes-3 c = search needs
@@ -52,7 +67,10 @@ add-bytes-4 : tie.Need-add-bytes-4
 add-bytes-4 c = search needs
 
 slice-write-bytes-4 : tie.Need-slice-write-bytes-4
-slice-write-bytes-4 c = simp length-set (omega (arith, room-three (c .before .before .args .v) (c .before .before .args .at) (c .before .before .args .bytes .now) (c .before .if1 .left) (c .if2 .left) (c .before .before .pre .1)))
+slice-write-bytes-4 c =
+    let start = c .before .before in
+    let a = start .args in
+    simp length-set (omega (arith, room-three (a .v) (a .at) (a .bytes .now) (c .before .if1 .left) (c .if2 .left) (start .pre .1)))
 
 cast-bytes-5 : tie.Need-cast-bytes-5
 cast-bytes-5 c = search needs
@@ -61,13 +79,19 @@ add-bytes-5 : tie.Need-add-bytes-5
 add-bytes-5 c = search needs
 
 slice-write-bytes-5 : tie.Need-slice-write-bytes-5
-slice-write-bytes-5 c = simp length-set (room-three (c .before .before .args .v) (c .before .before .args .at) (c .before .before .args .bytes .now) (c .before .if1 .left) (c .if2 .left) (c .before .before .pre .1))
+slice-write-bytes-5 c =
+    let start = c .before .before in
+    let a = start .args in
+    simp length-set (room-three (a .v) (a .at) (a .bytes .now) (c .before .if1 .left) (c .if2 .left) (start .pre .1))
 
 same-length-3 : tie.Need-same-length-3
 same-length-3 c = search needs
 
 returns-3 : tie.Need-returns-3
-returns-3 c = stored-three (c .before .before .args .v) (c .before .before .args .at) (c .before .before .args .bytes .now) (c .before .if1 .left) (c .if2 .left)
+returns-3 c =
+    let start = c .before .before in
+    let a = start .args in
+    stored-three (a .v) (a .at) (a .bytes .now) (c .before .if1 .left) (c .if2 .left)
 
 pub put-spec : {M : Type 1} → statement M
 put-spec =

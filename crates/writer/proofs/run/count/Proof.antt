@@ -21,7 +21,10 @@ end-requires : tie.Need-end-requires Inv-loop μ-loop
 end-requires c κs = (c .loop-test .taken)
 
 add-count : tie.Need-add-count Inv-loop μ-loop
-add-count c = let few = along-few (c .before .before .before .before .args .levels .now) (c .before .before .loop .i) (c .before .before .loop .count) (c .before .before .loop .bytes) (c .before .before .loop .inv) (c .before .before .before .before .pre) in search needs
+add-count c =
+    let at-loop = c .before .before in
+    let start = at-loop .before .before in
+    let few = along-few (start .args .levels .now) (at-loop .loop .i) (at-loop .loop .count) (at-loop .loop .bytes) (at-loop .loop .inv) (start .pre) in search needs
 
 shared-slice-read-size : tie.Need-shared-slice-read-size Inv-loop μ-loop
 shared-slice-read-size c = search needs
@@ -42,19 +45,29 @@ size-requires-2 : tie.Need-size-requires-2 Inv-loop μ-loop
 size-requires-2 c κs = search needs
 
 add-bytes : tie.Need-add-bytes Inv-loop μ-loop
-add-bytes c = omega (arith, (c .before .size .ensures), (c .size2 .ensures), few-bytes (getD (c .before .before .before .before .before .before .before .args .levels .now) (c .before .before .before .before .before .loop .i) 0), few-bytes ((c .before .before .before .end .result) - (c .before .before .before .before .before .loop .i)))
+add-bytes c =
+    let at-loop = c .before .before .before .before .before in
+    omega (arith, (c .before .size .ensures), (c .size2 .ensures), few-bytes (getD (c .before .before .before .before .before .before .before .args .levels .now) (at-loop .loop .i) 0), few-bytes ((c .before .before .before .end .result) - (at-loop .loop .i)))
 
 add-bytes-2 : tie.Need-add-bytes-2 Inv-loop μ-loop
-add-bytes-2 c = let few = along-few (c .before .before .before .before .before .before .before .args .levels .now) (c .before .before .before .before .before .loop .i) (c .before .before .before .before .before .loop .count) (c .before .before .before .before .before .loop .bytes) (c .before .before .before .before .before .loop .inv) (c .before .before .before .before .before .before .before .pre) in omega (arith, few, (c .before .size .ensures), (c .size2 .ensures), few-bytes (getD (c .before .before .before .before .before .before .before .args .levels .now) (c .before .before .before .before .before .loop .i) 0), few-bytes ((c .before .before .before .end .result) - (c .before .before .before .before .before .loop .i)))
+add-bytes-2 c =
+    let at-loop = c .before .before .before .before .before in
+    let start = at-loop .before .before in
+    let a = start .args in
+    let few = along-few (a .levels .now) (at-loop .loop .i) (at-loop .loop .count) (at-loop .loop .bytes) (at-loop .loop .inv) (start .pre) in omega (arith, few, (c .before .size .ensures), (c .size2 .ensures), few-bytes (getD (a .levels .now) (at-loop .loop .i) 0), few-bytes ((c .before .before .before .end .result) - (at-loop .loop .i)))
 
 loop-less : tie.Need-loop-less Inv-loop μ-loop
 loop-less c = omega (arith, (c .before .before .before .end .ensures .alike .some), (c .before .before .before .end .ensures .alike .within))
 
 loop-again : tie.Need-loop-again Inv-loop μ-loop
-loop-again c = rw ((c .before .size .ensures), (c .size2 .ensures)) (along-next (c .before .before .before .before .before .before .before .args .levels .now) (c .before .before .before .before .before .loop .i) (c .before .before .before .before .before .loop .count) (c .before .before .before .before .before .loop .bytes) (c .before .before .before .before .before .loop .inv) (c .before .before .before .end .result) (c .before .before .before .end .ensures))
+loop-again c =
+    let at-loop = c .before .before .before .before .before in
+    rw ((c .before .size .ensures), (c .size2 .ensures)) (along-next (c .before .before .before .before .before .before .before .args .levels .now) (at-loop .loop .i) (at-loop .loop .count) (at-loop .loop .bytes) (at-loop .loop .inv) (c .before .before .before .end .result) (c .before .before .before .end .ensures))
 
 returns : tie.Need-returns Inv-loop μ-loop
-returns c = along-done (c .before .before .before .args .levels .now) (c .before .loop .i) (c .before .loop .count) (c .before .loop .bytes) (c .before .loop .inv) (c .loop-test .left)
+returns c =
+    let at-loop = c .before in
+    along-done (c .before .before .before .args .levels .now) (at-loop .loop .i) (at-loop .loop .count) (at-loop .loop .bytes) (at-loop .loop .inv) (c .loop-test .left)
 
 pub count-spec : {M : Type 1} → statement M
 count-spec =

@@ -36,7 +36,11 @@ loop-less : tie.Need-loop-less Inv-loop μ-loop
 loop-less c = omega (arith, (c .before .before .loop-test .taken))
 
 loop-again : tie.Need-loop-again Inv-loop μ-loop
-loop-again c = alike-next (c .before .before .before .before .before .before .before .args .levels .now) (c .before .before .before .before .before .before .before .args .i) (c .before .before .before .loop .j) (c .before .before .before .loop .inv) (c .before .before .loop-test .taken) (c .if1 .left)
+loop-again c =
+    let at-loop = c .before .before .before in
+    let start = at-loop .before .before .before .before in
+    let a = start .args in
+    alike-next (a .levels .now) (a .i) (at-loop .loop .j) (at-loop .loop .inv) (c .before .before .loop-test .taken) (c .if1 .left)
 
 returns-2 : tie.Need-returns-2 Inv-loop μ-loop
 returns-2 c = record { alike = (c .before .loop .inv); other = λ inside same. omega (arith, (c .loop-test .left)) }

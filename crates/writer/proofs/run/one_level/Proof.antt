@@ -41,7 +41,9 @@ loop-again c = (
 )
 
 returns : tie.Need-returns Inv-loop μ-loop
-returns c = let all : (c .before .loop .t) ≡ 64 = omega arith in λ still t small. (c .before .loop .inv .1) still t (omega arith)
+returns c =
+    let at-loop = c .before in
+    let all : (at-loop .loop .t) ≡ 64 = omega arith in λ still t small. (at-loop .loop .inv .1) still t (omega arith)
 
 pub one-level-spec : {M : Type 1} → statement M
 one-level-spec =

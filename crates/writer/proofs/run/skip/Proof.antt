@@ -19,7 +19,10 @@ add-j : tie.Need-add-j Inv-loop μ-loop
 add-j c = search needs
 
 loop-holds : tie.Need-loop-holds Inv-loop μ-loop
-loop-holds c = alike-one (c .before .args .levels .now) (c .before .args .i) (c .before .pre)
+loop-holds c =
+    let start = c .before in
+    let a = start .args in
+    alike-one (a .levels .now) (a .i) (start .pre)
 
 sub-loop : tie.Need-sub-loop Inv-loop μ-loop
 sub-loop c = (c .loop .inv .within)
@@ -40,7 +43,11 @@ loop-less : tie.Need-loop-less Inv-loop μ-loop
 loop-less c = omega (arith, (c .before .before .before .before .loop .inv .within), (c .before .before .before .loop-test .taken))
 
 loop-again : tie.Need-loop-again Inv-loop μ-loop
-loop-again c = alike-more (c .before .before .before .before .before .before .args .levels .now) (c .before .before .before .before .before .before .args .i) (c .before .before .before .before .loop .j) (c .before .before .before .before .loop .inv) 64 (omega (arith, (c .before .before .before .before .loop .inv .within), (c .before .before .before .loop-test .taken))) ((c .before .one-level .ensures) (not-false (c .before .one-level .result) (c .if1 .left)))
+loop-again c =
+    let at-loop = c .before .before .before .before in
+    let start = at-loop .before .before in
+    let a = start .args in
+    alike-more (a .levels .now) (a .i) (at-loop .loop .j) (at-loop .loop .inv) 64 (omega (arith, (at-loop .loop .inv .within), (c .before .before .before .loop-test .taken))) ((c .before .one-level .ensures) (not-false (c .before .one-level .result) (c .if1 .left)))
 
 returns-2 : tie.Need-returns-2 Inv-loop μ-loop
 returns-2 c = (c .before .loop .inv)
