@@ -1,11 +1,12 @@
 -- The leaves that follow, as an outcome: the first run's, then those after it; or the first fault. Assumes nothing.
-use mathlib.Core.Path.{_≡_, refl, ap, sym}
+use mathlib.Core.Path.{_≡_, refl, ap, _∙_, sym}
 use mathlib.Core.List.{List, _++_}
 use Prim.Native.Nat.{ℕ, zero, suc, _+_}
 use native.Mathlib.Nat.{add-zero}
 use native.Mathlib.Omega.{arith}
 use lib.ListN.{length, length-append}
-use Rattle.paper.specs.Outcome.{Outcome, accepted, refused, mapped, and-then}
+use Rattle.paper.specs.Outcome.{Outcome, accepted, refused, mapped, and-then, passed}
+use Rattle.paper.proofs.Scan.{never}
 use Rattle.leaves.specs.Leaves.{Leaf}
 use Rattle.format.specs.Reading.{leavesFrom, FoundRun, Walk, Sounded, stopped, preceded, go-on, leavesIf, afterLast, keep, runAt, soundFrom}
 use Rattle.format.proofs.Runs.{leaves-count}
@@ -67,3 +68,24 @@ module _ (n L : ℕ) (bs : List ℕ) (K : ℕ) where
       by (accepted r) later =
           let us = leavesFrom n L (w .come) (r .level) (r .count) in
           omega (arith, later r, length-append us (soundFrom n L bs K R (keep n L w r) .leaves), leaves-count n L (w .come) (r .level) (r .count))
+
+  -- ---- where every run is kept
+  pub first-kept : (R : ℕ) (w : Walk) → soundFrom n L bs K (suc R) w .walk .runs ≡ w .runs + suc R → (r : FoundRun) × (runAt n L bs K w ≡ accepted r)
+  first-kept R w all = by (runAt n L bs K w) refl
+    where
+      by : (o : Outcome FoundRun) → runAt n L bs K w ≡ o → (r : FoundRun) × (runAt n L bs K w ≡ accepted r)
+      by (accepted r) is = (r, is)
+      by (refused number place) is = absurd (omega (arith, all, ap (λ (s : Sounded). s .walk .runs) (sound-stops R w number place is)))
+
+  pub all-kept : (R : ℕ) (w : Walk) → soundFrom n L bs K R w .fault ≡ passed → soundFrom n L bs K R w .walk .runs ≡ w .runs + R
+  all-kept zero w sound = ap (λ (s : Sounded). s .walk .runs) (sound-ends w) ∙ sym (add-zero (w .runs))
+  all-kept (suc R) w sound = by (runAt n L bs K w) refl (λ r. all-kept R (keep n L w r))
+    where
+      by : (o : Outcome FoundRun) → runAt n L bs K w ≡ o
+          → ((r : FoundRun) → soundFrom n L bs K R (keep n L w r) .fault ≡ passed → soundFrom n L bs K R (keep n L w r) .walk .runs ≡ w .runs + 1 + R)
+          → soundFrom n L bs K (suc R) w .walk .runs ≡ w .runs + suc R
+      by (accepted r) is later =
+          let more = sound-more R w r is in
+          let rest = later r (sym (ap (λ (s : Sounded). s .fault) more) ∙ sound) in
+          omega (arith, ap (λ (s : Sounded). s .walk .runs) more, rest)
+      by (refused number place) is later = never tt number place (sym (ap (λ (s : Sounded). s .fault) (sound-stops R w number place is)) ∙ sound)

@@ -90,6 +90,9 @@ pub record Walk : Type 0 where
   pub come : Spot
   pub next : ℕ
 
+abbrev pub walkAt : ℕ → ℕ → ℕ → Spot → ℕ → Walk
+walkAt R N l c i = record { runs = R; count = N; before = l; come = c; next = i }
+
 pub record Sounded : Type 0 where
   pub walk : Walk
   pub leaves : List Leaf
@@ -133,17 +136,10 @@ module _ (n L : ℕ) where
   endFrom c l (suc k) = endFrom (endOf n L (leafFrom c l)) l k
 
   abbrev pub start : ℕ → Walk
-  start i = record { runs = 0; count = 0; before = suc L; come = spotAt 0 0; next = i }
+  start i = walkAt 0 0 (suc L) (spotAt 0 0) i
 
   abbrev pub keep : Walk → FoundRun → Walk
-  keep w r =
-      record {
-        runs = w .runs + 1;
-        count = w .count + r .count;
-        before = r .level;
-        come = endFrom (w .come) (r .level) (r .count);
-        next = r .next;
-      }
+  keep w r = walkAt (w .runs + 1) (w .count + r .count) (r .level) (endFrom (w .come) (r .level) (r .count)) (r .next)
 
   abbrev pub afterCount : ℕ → Walk → Found → Found → Outcome FoundRun
   afterCount K w l k =

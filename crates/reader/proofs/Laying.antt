@@ -1,8 +1,8 @@
--- A run's leaves are laid root by root: what is left of a root is a stretch, whose leaves have one root and rising positions. Assumes nothing.
+-- The leaves of a run are laid root by root: each stretch is the rest of a root, or of the run. Assumes nothing.
 use mathlib.Core.Path.{_≡_, refl, ap, ap₂, _∙_, sym, subst, subst⁻¹}
 use mathlib.Core.List.{List, _∷_}
 use Prim.Native.Nat.{ℕ, zero, suc, _+_, _-_, _*_, _/_, _%_, _^_, _≤_, _<_}
-use native.Mathlib.Nat.{div-add-mod', mod-lt, add-suc, add-zero}
+use native.Mathlib.Nat.{add-zero, add-suc, div-add-mod', div-eq-of-lt, mod-eq-of-lt, mod-lt}
 use native.Mathlib.Omega.{arith}
 use lib.ListN.{length}
 use lib.Pow.{pow-pos, pow-mono}
@@ -10,14 +10,16 @@ use Rattle.tree.proofs.Digits.{power-bits}
 use Rattle.paper.specs.Outcome.{rows}
 use Rattle.paper.proofs.Scan.{rows-length}
 use Rattle.paper.proofs.Front.{rows-two}
-use Rattle.leaves.specs.Leaves.{Leaf, leaf, Spot, spotAt, span}
-use Rattle.leaves.specs.Stretch.{stretch, laid, Ran}
-use Rattle.leaves.proofs.Span.{power-pos, quotient, rest}
-use Rattle.leaves.proofs.Shift.{bits-le}
-use Rattle.leaves.proofs.Stretches.{laid-whole, ran-after, roots-long, levels-long, positions-long}
-use Rattle.format.specs.Reading.{endFrom, leavesFrom}
+use Rattle.leaves.specs.Leaves.{Leaf, leaf, Columns, Spot, spotAt, span}
+use Rattle.leaves.proofs.Span.{power-pos, more-mul, quotient, rest}
+use Rattle.leaves.proofs.Shift.{bits-le, shifted}
+use Rattle.columns.specs.Laying.{stretch, stored, Room}
+use Rattle.columns.specs.Laying as laying
+use Rattle.columns.proofs.Stretches.{laid-all, stored-after, roots-long, levels-long, positions-long}
+use Rattle.format.specs.Reading.{leavesFrom, endFrom}
 use Rattle.format.proofs.Units.{quotient-order}
-use Rattle.format.proofs.Spots.{level-is, after-is, leaves-are}
+use Rattle.format.proofs.Spots.{level-is, units-below, after-is, leaves-are}
+use Rattle.reader.specs.Inner.{Running, RunLaid}
 
 rows-shift : {A : Type 0} (f g : ℕ → A) (u j m : ℕ) → ((t : ℕ) → t < j + m → f (u + t) ≡ g t) → rows f (u + j) m ≡ rows g j m
 rows-shift f g u j zero same = refl
@@ -25,12 +27,12 @@ rows-shift f g u j (suc m) same =
     ap₂ (λ (x : _) (xs : List _). x ∷ xs) (same j (omega arith))
     (ap (λ (i : ℕ). rows f i m) (sym (add-suc u j)) ∙ rows-shift f g u (suc j) m (λ t low. same t (omega arith)))
 
-module _ (r l E : ℕ) (some : 0 < E) where
-  -- the leaf t of a level, counted from the start of root r, where E leaves fill a root
+-- ---- leaves of a level, counted from the start of root r, where E of them fill a root
+module _ (r l E : ℕ) where
   abbrev pub entry : ℕ → Leaf
   entry t = leaf (r + t / E) l (t % E)
 
-  pub stretch-is : (u m : ℕ) → u % E + m ≤ E → rows entry u m ≡ stretch (r + u / E) l (u % E) m
+  stretch-is : (u m : ℕ) → u % E + m ≤ E → rows entry u m ≡ stretch (r + u / E) l (u % E) m
   stretch-is u m room =
       ap (λ (i : ℕ). rows entry i m) (sym (add-zero u))
       ∙ rows-shift entry (λ t. leaf (r + u / E) l (u % E + t)) u 0 m
@@ -39,63 +41,154 @@ module _ (r l E : ℕ) (some : 0 < E) where
       let parts : u + t ≡ u / E * E + (u % E + t) = omega (arith, div-add-mod' u E) in
       ap₂ (λ (q p : ℕ). leaf (r + q) l p) (quotient E (u / E) (u % E + t) (u + t) parts within) (rest E (u / E) (u % E + t) (u + t) parts within))
 
-module _ (b L l : ℕ) (narrow : b * L ≤ 63) (shallow : l ≤ L) (r q k : ℕ) (proper : q < (2 ^ b) ^ L) (whole : q % span (2 ^ b) L l ≡ 0) where
-  abbrev leafOf : ℕ → Leaf
-  leafOf = entry r l ((2 ^ b) ^ l) (power-pos (2 ^ b) l (pow-pos b))
+  -- a stretch that ends within a root, and one that fills it
+  module _ (u m : ℕ) where
+    within-root : u % E + m < E → ((u + m) / E ≡ u / E) × ((u + m) % E ≡ u % E + m)
+    within-root low =
+        let parts : u + m ≡ u / E * E + (u % E + m) = omega (arith, div-add-mod' u E) in
+        (quotient E (u / E) (u % E + m) (u + m) parts low, rest E (u / E) (u % E + m) (u + m) parts low)
 
-  abbrev first : ℕ
-  first = q / 2 ^ (b * (L - l))
+    fills-root : 0 < E → u % E + m ≡ E → ((u + m) / E ≡ u / E + 1) × ((u + m) % E ≡ 0)
+    fills-root some full =
+        let parts : u + m ≡ (u / E + 1) * E + 0 = omega (arith, div-add-mod' u E, more-mul (u / E) E) in
+        (quotient E (u / E + 1) 0 (u + m) parts some, rest E (u / E + 1) 0 (u + m) parts some)
 
-  -- the code's powers
+-- ---- k leaves of level l, from the leaf `first` of root r on, stored from entry i of the columns m on
+module _ (l E k r first i : ℕ) (m : Columns) where
+  -- d leaves are stored, and the next is at position p of root rt
+  pub record Laid (d rt p : ℕ) (m′ : Columns) : Type 0 where
+    pub upto : d ≤ k
+    pub root : rt ≡ r + (first + d) / E
+    pub position : p ≡ (first + d) % E
+    pub memory : m′ ≡ stored i (rows (entry r l E) first d) m
+
+  pub laid-start : first < E → Laid 0 r first m
+  laid-start below =
+      record {
+        upto = omega arith;
+        root = let none = ap (λ (x : ℕ). x / E) (add-zero first) ∙ div-eq-of-lt below in omega arith;
+        position = sym (ap (λ (x : ℕ). x % E) (add-zero first) ∙ mod-eq-of-lt below);
+        memory = refl;
+      }
+
+  module _ (d rt p : ℕ) (m′ : Columns) (g : Laid d rt p m′) (some : 0 < E) where
+    pub position-below : p < E
+    position-below = subst⁻¹ (λ (x : ℕ). x < E) (g .position) (mod-lt (first + d) some)
+
+    pub root-low : r + (first + k) / E ≤ 65535 → rt ≤ 65535
+    root-low low = omega (arith, g .root, quotient-order E (first + d) (first + k) some (omega (arith, g .upto)))
+
+    pub roots-kept : length (m′ .roots) ≡ length (m .roots)
+    roots-kept = roots-long i (rows (entry r l E) first d) m m′ (g .memory)
+
+    pub levels-kept : length (m′ .levels) ≡ length (m .levels)
+    levels-kept = levels-long i (rows (entry r l E) first d) m m′ (g .memory)
+
+    pub positions-kept : length (m′ .positions) ≡ length (m .positions)
+    positions-kept = positions-long i (rows (entry r l E) first d) m m′ (g .memory)
+
+    -- one stretch more
+    module _ (small : E ≤ 2 ^ 63) (room : Room (i + k) m) (s count : ℕ) (m″ : Columns) (left : s ≤ E - p) (more : d + s ≤ k)
+        (laid : laying.Laid (i + d) s rt l p count m′ m″) where
+      reaches : p + s ≤ E
+      reaches = omega (arith, left, position-below)
+
+      stored-more : m″ ≡ stored i (rows (entry r l E) first (d + s)) m
+      stored-more =
+          let done = rows (entry r l E) first d in
+          let new = rows (entry r l E) (first + d) s in
+          let here : Room (i + d + s) m′ =
+          record {
+            in-roots = omega (arith, room .in-roots, roots-kept, more);
+            in-levels = omega (arith, room .in-levels, levels-kept, more);
+            in-positions = omega (arith, room .in-positions, positions-kept, more);
+          } in
+          let fits : (first + d) % E + s ≤ E = omega (arith, reaches, g .position) in
+          let same : stretch rt l p s ≡ new =
+          ap₂ (λ (x y : ℕ). stretch x l y s) (g .root) (g .position) ∙ sym (stretch-is r l E (first + d) s fits) in
+          laid-all (i + d) s p m′ rt l count m″ (omega (arith, reaches)) here laid
+          ∙ ap (λ (vs : List Leaf). stored (i + d) vs m′) same
+          ∙ ap (stored (i + d) new) (g .memory)
+          ∙ ap (λ (x : ℕ). stored (i + x) new (stored i done m)) (sym (rows-length (entry r l E) first d))
+          ∙ stored-after i done new m
+          ∙ ap (λ (vs : List Leaf). stored i vs m) (sym (rows-two (entry r l E) first d s))
+
+      sum : first + (d + s) ≡ first + d + s
+      sum = omega arith
+
+      pub laid-full : p + s ≡ E → Laid (d + s) (rt + 1) 0 m″
+      laid-full full =
+          let here = fills-root r l E (first + d) s some (omega (arith, g .position, full)) in
+          record {
+            upto = more;
+            root = let one = ap (λ (x : ℕ). x / E) sum ∙ here .0 in omega (arith, g .root, one);
+            position = sym (ap (λ (x : ℕ). x % E) sum ∙ here .1);
+            memory = stored-more;
+          }
+
+      pub laid-within : (p + s ≡ E → ⊥) → Laid (d + s) rt (p + s) m″
+      laid-within short =
+          let low : p + s < E = under reaches short in
+          let here = within-root r l E (first + d) s (omega (arith, g .position, low)) in
+          record {
+            upto = more;
+            root = let one = ap (λ (x : ℕ). x / E) sum ∙ here .0 in omega (arith, g .root, one);
+            position = let one = ap (λ (x : ℕ). x % E) sum ∙ here .1 in omega (arith, g .position, one);
+            memory = stored-more;
+          }
+        where
+          under : {x y : ℕ} → x ≤ y → (x ≡ y → ⊥) → x < y
+          under {x} {y} upto other = omega arith
+
+-- ---- a run of a file, in the code's powers
+module _ (b L l k : ℕ) (c : Spot) (f : Running b L l k c) where
+  abbrev n : ℕ
+  n = 2 ^ b
+
   abbrev each : ℕ
   each = 1 * 2 ^ (b * l) % 2 ^ 64
 
-  each-small : each ≤ 2 ^ 63
-  each-small = subst⁻¹ (λ (m : ℕ). m ≤ 2 ^ 63) (level-is b L l narrow shallow ∙ power-bits b l) (pow-mono (bits-le b L narrow l shallow))
+  abbrev first : ℕ
+  first = c .cell / 2 ^ (b * (L - l))
 
-  first-is : first ≡ q / span (2 ^ b) L l
-  first-is = ap (λ (s : ℕ). q / s) (sym (power-bits b (L - l)))
+  each-is : each ≡ n ^ l
+  each-is = level-is b L l (f .narrow) (f .shallow)
 
-  -- the leaves d of the run that are laid
-  abbrev pub Laid : ℕ → ℕ → List ℕ → List ℕ → List ℕ → List ℕ → List ℕ → List ℕ → Type 0
-  Laid i d roots levels positions rs ls ps = Ran i (rows leafOf (q / span (2 ^ b) L l) d) roots levels positions rs ls ps
+  first-is : first ≡ c .cell / span n L l
+  first-is = ap (λ (s : ℕ). c .cell / s) (sym (power-bits b (L - l)))
 
-  pub laid-all-of : (i : ℕ) {roots levels positions rs ls ps : List ℕ} → Laid i k roots levels positions rs ls ps
-      → Ran i (leavesFrom (2 ^ b) L (spotAt r q) l k) roots levels positions rs ls ps
-  laid-all-of i {roots} {levels} {positions} {rs} {ls} {ps} f =
-      subst⁻¹ (λ (vs : List Leaf). Ran i vs roots levels positions rs ls ps) (leaves-are (2 ^ b) L l 0 (pow-pos b) shallow (spotAt r q) proper whole k) f
+  end-is : endFrom n L c l k ≡ spotAt (c .root + (first + k) / each) ((first + k) % each * span n L l)
+  end-is =
+      after-is n L l 0 (pow-pos b) (f .shallow) c (f .proper) (f .whole) k
+      ∙ ap₂ (λ (x E : ℕ). spotAt (c .root + (x + k) / E) ((x + k) % E * span n L l)) (sym first-is) (sym each-is)
 
-  -- the root of a leaf of the run
-  pub root-low : (d : ℕ) → d ≤ k → endFrom (2 ^ b) L (spotAt r q) l k .root ≤ 4096 → r + (first + d) / 2 ^ (b * l) ≤ 4096
-  root-low d within low =
-      let end : endFrom (2 ^ b) L (spotAt r q) l k .root ≡ r + (q / span (2 ^ b) L l + k) / (2 ^ b) ^ l =
-      ap (λ (c : Spot). c .root) (after-is (2 ^ b) L l 0 (pow-pos b) shallow (spotAt r q) proper whole k) in
-      let order = quotient-order (2 ^ (b * l)) (first + d) (first + k) (pow-pos (b * l)) (omega arith) in
-      let same : (first + k) / 2 ^ (b * l) ≡ (q / span (2 ^ b) L l + k) / (2 ^ b) ^ l =
-      ap₂ (λ (x m : ℕ). (x + k) / m) first-is (sym (power-bits b l)) in
-      omega (arith, low, end, order, same)
+  pub some-each : 0 < each
+  some-each = subst⁻¹ (λ (x : ℕ). 0 < x) each-is (power-pos n l (pow-pos b))
 
-  -- one stretch more
-  pub laid-next : (i d m : ℕ) {roots levels positions rs ls ps rs′ ls′ ps′ : List ℕ} → Laid i d roots levels positions rs ls ps
-      → m ≤ each - (first + d) % each → d + m ≤ k → i + k ≤ length roots → i + k ≤ length levels → i + k ≤ length positions
-      → Ran (i + d) (stretch (r + (first + d) / 2 ^ (b * l)) l ((first + d) % each) (laid (i + d) m ((first + d) % each) (length rs) (length ls) (length ps))) rs ls ps rs′ ls′ ps′
-      → Laid i (d + m) roots levels positions rs′ ls′ ps′
-  laid-next i d m {roots} {levels} {positions} {rs} {ls} {ps} {rs′} {ls′} {ps′} f left within r-room l-room p-room h =
-      let u = q / span (2 ^ b) L l + d in
-      let E = (2 ^ b) ^ l in
-      let some = power-pos (2 ^ b) l (pow-pos b) in
-      let unit : first + d ≡ u = ap (λ (x : ℕ). x + d) first-is in
-      let is-each = level-is b L l narrow shallow in
-      let below = mod-lt (first + d) (subst⁻¹ (λ (x : ℕ). 0 < x) is-each some) in
-      let all : laid (i + d) m ((first + d) % each) (length rs) (length ls) (length ps) ≡ m =
-      laid-whole (i + d) m ((first + d) % each) (length rs) (length ls) (length ps) (omega (arith, each-small, below)) (omega (arith, roots-long f)) (omega (arith, levels-long f)) (omega (arith, positions-long f)) in
-      let here : stretch (r + (first + d) / 2 ^ (b * l)) l ((first + d) % each) (laid (i + d) m ((first + d) % each) (length rs) (length ls) (length ps)) ≡ stretch (r + u / E) l (u % E) m =
-      ap (stretch (r + (first + d) / 2 ^ (b * l)) l ((first + d) % each)) all
-      ∙ ap₂ (λ (x y : ℕ). stretch (r + (first + d) / x) l ((first + d) % y) m) (sym (power-bits b l)) is-each
-      ∙ ap (λ (x : ℕ). stretch (r + x / E) l (x % E) m) unit in
-      let room : u % E + m ≤ E = subst (λ (x : ℕ). x % E + m ≤ E) unit (subst (λ (y : ℕ). (first + d) % y + m ≤ y) is-each (omega (arith, left, below))) in
-      let more = here ∙ sym (stretch-is r l E some u m room) in
-      subst⁻¹ (λ (vs : List Leaf). Ran i vs roots levels positions rs′ ls′ ps′) (rows-two leafOf (q / span (2 ^ b) L l) d m)
-      (ran-after i (rows leafOf (q / span (2 ^ b) L l) d) (rows leafOf u m) f
-      (subst⁻¹ (λ (x : ℕ). Ran (i + x) (rows leafOf u m) rs ls ps rs′ ls′ ps′) (rows-length leafOf (q / span (2 ^ b) L l) d)
-      (subst (λ (vs : List Leaf). Ran (i + d) vs rs ls ps rs′ ls′ ps′) more h)))
+  pub each-small : each ≤ 2 ^ 63
+  each-small = subst⁻¹ (λ (x : ℕ). x ≤ 2 ^ 63) (each-is ∙ power-bits b l) (pow-mono (bits-le b L (f .narrow) l (f .shallow)))
+
+  pub first-below : first < each
+  first-below = omega (arith, units-below n L l 0 (pow-pos b) (f .shallow) c (f .proper) (f .whole), first-is, each-is)
+
+  pub end-low : c .root + (first + k) / each ≤ 65535
+  end-low = omega (arith, f .low, ap (λ (s : Spot). s .root) end-is)
+
+  pub laid-run : (i d rt p : ℕ) (m m′ : Columns) → Laid l each k (c .root) first i m d rt p m′ → k ≤ d
+      → RunLaid b L l k c i (spotAt rt (p * 2 ^ (b * (L - l)) % 2 ^ 64)) m m′
+  laid-run i d rt p m m′ g past =
+      let all : d ≡ k = omega (arith, g .upto) in
+      let low = position-below l each k (c .root) first i m d rt p m′ g some-each in
+      let cell : p * 2 ^ (b * (L - l)) % 2 ^ 64 ≡ (first + k) % each * span n L l =
+      shifted b L (f .narrow) p l (f .shallow) (omega (arith, low, each-is))
+      ∙ ap (λ (x : ℕ). x * span n L l) (g .position ∙ ap (λ (x : ℕ). (first + x) % each) all) in
+      let same : rows (entry (c .root) l each) first k ≡ leavesFrom n L c l k =
+      ap₂ (λ (x E : ℕ). rows (entry (c .root) l E) x k) first-is each-is
+      ∙ sym (leaves-are n L l 0 (pow-pos b) (f .shallow) c (f .proper) (f .whole) k) in
+      record {
+        ends = ap₂ spotAt (g .root ∙ ap (λ (x : ℕ). c .root + (first + x) / each) all) cell ∙ sym end-is;
+        memory =
+            g .memory
+            ∙ ap (λ (x : ℕ). stored i (rows (entry (c .root) l each) first x) m) all
+            ∙ ap (λ (vs : List Leaf). stored i vs m) same;
+      }

@@ -1,4 +1,3 @@
-pub mod Counting
 pub mod Laying
 pub mod Underway
 pub mod Loading

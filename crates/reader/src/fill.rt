@@ -1,17 +1,15 @@
-// The second pass over the runs of a sound file: their leaves, written into three columns run by run.
-use crate::Cursor;
+// The second pass over the runs of a file: the leaves of the runs that are sound, stored in three columns run by run.
 use crate::Pair;
-use crate::walk;
 use numbers::FoundNumber;
+use sounding::Cursor;
 ghost use mathlib.Core.Path.{_≡_};
-ghost use Prim.Native.Nat.{suc, _+_, _*_, _%_, _^_, _≤_, _<_};
+ghost use Prim.Native.Nat.{_+_, _*_, _^_, _≤_, _<_};
 ghost use lib.ListN.{length};
-ghost use Rattle.paper.specs.Outcome.{accepted};
-ghost use Rattle.leaves.specs.Leaves.{spotAt, span};
-ghost use Rattle.leaves.specs.Stretch.{Ran, Passed};
-ghost use Rattle.format.specs.Reading as reading;
-ghost use Rattle.format.specs.Reading.{leavesFrom, runsAt};
-ghost use Rattle.reader.specs.Inner.{spotOf, listOf, PairAt, CountAt};
+ghost use Rattle.leaves.specs.Leaves.{columns, front};
+ghost use Rattle.columns.specs.Laying.{Room};
+ghost use Rattle.format.specs.Reading.{start, soundFrom};
+ghost use Rattle.sounding.specs.Answers.{spotOf};
+ghost use Rattle.reader.specs.Inner.{PairAt, CountAt, Running, RunLaid};
 
 // The leaves of so many runs, the first at `at`, of k roots.
 pub(crate) fn columns(
@@ -25,27 +23,31 @@ pub(crate) fn columns(
     levels: &mut [u8],
     positions: &mut [u64],
 )
-    requires { ⌜ (0 < bits) × ((bits * highest ≤ 63) × ((k ≤ 4096) × ((length (now roots) ≡ length (now levels)) × ((length (now roots) ≡ length (now positions)) × ((length (listOf (runsAt (2 ^ bits) highest (now bytes) k runs at (suc highest) (spotAt 0 0) 0)) ≤ length (now roots)) × (runsAt (2 ^ bits) highest (now bytes) k runs at (suc highest) (spotAt 0 0) 0 ≡ accepted (listOf (runsAt (2 ^ bits) highest (now bytes) k runs at (suc highest) (spotAt 0 0) 0)))))))) ⌝ }
-    ensures { λ _. ⌜ Passed (listOf (runsAt (2 ^ bits) highest (now (bytes .entry)) k runs at (suc highest) (spotAt 0 0) 0)) (now (roots .entry)) (now (levels .entry)) (now (positions .entry)) (now (roots .exit)) (now (levels .exit)) (now (positions .exit)) ⌝ }
+    requires { ⌜ bits * highest ≤ 63 ⌝ }
+    requires { ⌜ soundFrom (2 ^ bits) highest (now bytes) k runs (start (2 ^ bits) highest at) .walk .runs ≡ runs ⌝ }
+    requires { ⌜ Room (length (soundFrom (2 ^ bits) highest (now bytes) k runs (start (2 ^ bits) highest at) .leaves))
+        (columns (now roots) (now levels) (now positions)) ⌝ }
+    ensures { λ _. ⌜ columns (now (roots .exit)) (now (levels .exit)) (now (positions .exit))
+        ≡ front (soundFrom (2 ^ bits) highest (now (bytes .entry)) k runs (start (2 ^ bits) highest at) .leaves)
+        (columns (now (roots .entry)) (now (levels .entry)) (now (positions .entry))) ⌝ }
 {
     let mut at = at;
-    let mut spot = Cursor { root: 0, cell: 0 };
+    let mut come = Cursor { root: 0, cell: 0 };
     let mut size = 0;
     let mut left = runs;
     while 0 < left {
         let pair = pair_at(bytes, at);
-        run(
+        come = run(
             bits,
             highest,
             pair.level,
             pair.count,
-            spot,
+            come,
             size,
             roots,
             levels,
             positions,
         );
-        spot = walk::after(bits, highest, pair.level, pair.count, spot);
         size += pair.count as usize;
         at = pair.next;
         left -= 1;
@@ -80,32 +82,35 @@ fn count_at(bytes: &[u8], level: u8, at: usize) -> Pair
     }
 }
 
-// The leaves of one run, from entry `at` of each column on, root by root.
+// The leaves of one run, from entry `at` of each column on, root by root; the answer is where they end.
 fn run(
     bits: u8,
     highest: u8,
     level: u8,
     count: u32,
-    spot: Cursor,
+    come: Cursor,
     at: usize,
     roots: &mut [u16],
     levels: &mut [u8],
     positions: &mut [u64],
-)
-    requires { ⌜ (0 < bits) × ((bits * highest ≤ 63) × ((level ≤ highest) × ((spot .cell < (2 ^ bits) ^ highest) × ((spot .cell % span (2 ^ bits) highest level ≡ 0) × ((reading.endFrom (2 ^ bits) highest (spotOf spot) level count .root ≤ 4096) × ((at + count ≤ length (now roots)) × ((at + count ≤ length (now levels)) × (at + count ≤ length (now positions))))))))) ⌝ }
-    ensures { λ _. ⌜ Ran at (leavesFrom (2 ^ bits) highest (spotOf spot) level count) (now (roots .entry)) (now (levels .entry)) (now (positions .entry)) (now (roots .exit)) (now (levels .exit)) (now (positions .exit)) ⌝ }
+) -> Cursor
+    requires { ⌜ Running bits highest level count (spotOf come) ⌝ }
+    requires { ⌜ Room (at + count) (columns (now roots) (now levels) (now positions)) ⌝ }
+    ensures { λ r. ⌜ RunLaid bits highest level count (spotOf come) at (spotOf r)
+        (columns (now (roots .entry)) (now (levels .entry)) (now (positions .entry)))
+        (columns (now (roots .exit)) (now (levels .exit)) (now (positions .exit))) ⌝ }
 {
-    let wide = bits * level;
-    let each = 1u64 << wide;
-    let first = spot.cell >> (bits * (highest - level));
+    let narrow = bits * (highest - level);
+    let each = 1u64 << (bits * level);
+    let mut root = come.root;
+    let mut position = come.cell >> narrow;
     let mut done = 0;
     while done < count as u64 {
-        let position = (first + done) % each;
         let many = least(each - position, count as u64 - done);
-        leaves::lay(
+        columns::lay(
             at + done as usize,
             many as usize,
-            (spot.root + ((first + done) >> wide)) as u16,
+            root as u16,
             level,
             position,
             roots,
@@ -113,6 +118,15 @@ fn run(
             positions,
         );
         done += many;
+        position += many;
+        if position == each {
+            position = 0;
+            root += 1;
+        }
+    }
+    Cursor {
+        root,
+        cell: position << narrow,
     }
 }
 

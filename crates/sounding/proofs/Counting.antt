@@ -7,12 +7,12 @@ use native.Mathlib.Nat.{sub-zero}
 use native.Mathlib.Omega.{arith}
 use lib.Dec.{eqb}
 use borrow.Author.Tests.{ne-eqb}
-use Rattle.paper.specs.Outcome.{Outcome, accepted, refused, passed, refuse-when-at}
+use Rattle.paper.specs.Outcome.{accepted, refused, passed, refuse-when-at}
 use Rattle.paper.specs.Readings.{checksOf}
-use Rattle.leaves.specs.Leaves.{Spot, spotAt}
+use Rattle.leaves.specs.Leaves.{Spot}
 use Rattle.leaves.specs.Calls.{limit}
 use Rattle.leaves.proofs.Span.{power-pos}
-use Rattle.format.specs.Reading.{endFrom, FoundRun, Walk, Sounded, afterLast, start, keep, runAt, soundFrom}
+use Rattle.format.specs.Reading.{endFrom, FoundRun, Walk, walkAt, Sounded, afterLast, start, keep, runAt, soundFrom}
 use Rattle.format.proofs.Fitting.{after-proper}
 use Rattle.format.proofs.Units.{upto-root}
 use Rattle.format.proofs.Spots.{fits-whole, fits-is}
@@ -22,12 +22,8 @@ use Rattle.format.proofs.Faults.{run-fault}
 use Rattle.sounding.specs.Answers.{spotOf, Tells}
 use Rattle.sounding.specs.declared.Sounding.{Sounding}
 
--- the walk that the code's numbers stand for
-abbrev pub walking : ℕ → ℕ → ℕ → Spot → ℕ → Walk
-walking kept leaves l c i = record { runs = kept; count = leaves; before = l; come = c; next = i }
-
 -- a sounding that stopped at the walk of its numbers
-pub told : (r : Sounding) (s : Sounded) (l : ℕ) → (s .walk ≡ walking (r .runs) (r .leaves) l (spotOf (r .come)) (r .next)) × (s .fault ≡ checksOf (r .fault)) → Tells r s
+pub told : (r : Sounding) (s : Sounded) (l : ℕ) → (s .walk ≡ walkAt (r .runs) (r .leaves) l (spotOf (r .come)) (r .next)) × (s .fault ≡ checksOf (r .fault)) → Tells r s
 told r s l here =
     record {
       runs = sym (ap (λ (w : Walk). w .runs) (here .0));
@@ -93,11 +89,11 @@ module _ (n L K : ℕ) (positive : 0 < n) (bs : List ℕ) (R₀ i₀ : ℕ) wher
         (g .stops ∙ ap (λ (s : Sounded). s .walk) here, g .faulty ∙ ap (λ (s : Sounded). s .fault) here)
 
   -- ---- the same over the code's numbers
-  module _ (kept N l : ℕ) (c : Spot) (i : ℕ) (g : Going (R₀ - kept) (walking kept N l c i)) where
-    pub going-next : kept < R₀ → (r : FoundRun) → runAt n L bs K (walking kept N l c i) ≡ accepted r → (d : Spot) → d ≡ endFrom n L c (r .level) (r .count)
-        → Going (R₀ - (kept + 1)) (walking (kept + 1) (N + r .count) (r .level) d (r .next))
+  module _ (kept N l : ℕ) (c : Spot) (i : ℕ) (g : Going (R₀ - kept) (walkAt kept N l c i)) where
+    pub going-next : kept < R₀ → (r : FoundRun) → runAt n L bs K (walkAt kept N l c i) ≡ accepted r → (d : Spot) → d ≡ endFrom n L c (r .level) (r .count)
+        → Going (R₀ - (kept + 1)) (walkAt (kept + 1) (N + r .count) (r .level) d (r .next))
     going-next inside r is d ends =
         let left : R₀ - (kept + 1) ≡ R₀ - kept - 1 = omega arith in
-        subst⁻¹ (λ (m : ℕ). Going m (walking (kept + 1) (N + r .count) (r .level) d (r .next))) left
-        (subst⁻¹ (λ (e : Spot). Going (R₀ - kept - 1) (walking (kept + 1) (N + r .count) (r .level) e (r .next))) ends
-        (going-more (R₀ - kept) (walking kept N l c i) g (omega arith) r is))
+        subst⁻¹ (λ (m : ℕ). Going m (walkAt (kept + 1) (N + r .count) (r .level) d (r .next))) left
+        (subst⁻¹ (λ (e : Spot). Going (R₀ - kept - 1) (walkAt (kept + 1) (N + r .count) (r .level) e (r .next))) ends
+        (going-more (R₀ - kept) (walkAt kept N l c i) g (omega arith) r is))

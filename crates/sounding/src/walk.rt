@@ -6,14 +6,13 @@ use numbers::FoundNumber;
 use paper::Fault;
 ghost use mathlib.Core.Path.{_≡_};
 ghost use Prim.Native.Nat.{_*_, _%_, _^_, _≤_, _<_};
-ghost use lib.ListN.{length};
 ghost use Rattle.paper.specs.Readings.{checksOf};
 ghost use Rattle.leaves.specs.Leaves.{span};
 ghost use Rattle.leaves.specs.Calls.{limit};
 ghost use Rattle.numbers.specs.Numbers.{found};
-ghost use Rattle.format.specs.Reading.{upto, endFrom, start, soundFrom, runAt, afterLevel, afterCount, afterLast};
+ghost use Rattle.format.specs.Reading.{upto, endFrom, walkAt, start, soundFrom, runAt, afterLevel, afterCount, afterLast};
 ghost use Rattle.sounding.specs.Answers.{spotOf, Tells};
-ghost use Rattle.sounding.specs.Inner.{runOf, standing, Standing};
+ghost use Rattle.sounding.specs.Inner.{runOf, Standing};
 
 // The runs in turn, to the first fault or to the end of the file. k roots, so many runs, the first at `at`.
 pub(crate) fn runs(bits: u8, highest: u8, k: u16, runs: u32, at: usize, bytes: &[u8]) -> Sounding
@@ -57,7 +56,7 @@ pub(crate) fn runs(bits: u8, highest: u8, k: u16, runs: u32, at: usize, bytes: &
 
 // After the last run: 12 where ground is left, 22 where bytes are.
 fn ended(k: u16, come: Cursor, at: usize, bytes: &[u8]) -> Fault
-    ensures { λ r. ⌜ checksOf r ≡ afterLast (now (bytes .entry)) k (standing 0 0 (spotOf come) at) ⌝ }
+    ensures { λ r. ⌜ checksOf r ≡ afterLast (now (bytes .entry)) k (walkAt 0 0 0 (spotOf come) at) ⌝ }
 {
     let place = at as u64;
     if come.root != k as u64 {
@@ -88,7 +87,7 @@ fn run_at(
 ) -> RunAnswer
     requires { ⌜ Standing bits highest (spotOf come) ⌝ }
     requires { ⌜ leaves ≤ limit ⌝ }
-    ensures { λ r. ⌜ runOf r ≡ runAt (2 ^ bits) highest (now (bytes .entry)) k (standing leaves before (spotOf come) at) ⌝ }
+    ensures { λ r. ⌜ runOf r ≡ runAt (2 ^ bits) highest (now (bytes .entry)) k (walkAt 0 leaves before (spotOf come) at) ⌝ }
 {
     match numbers::number_at(bytes, at) {
         FoundNumber::Is(level, next) => after_level(
@@ -123,7 +122,7 @@ fn after_level(
     requires { ⌜ Standing bits highest (spotOf come) ⌝ }
     requires { ⌜ leaves ≤ limit ⌝ }
     ensures { λ r. ⌜ runOf r ≡ afterLevel (2 ^ bits) highest (now (bytes .entry)) k
-        (standing leaves before (spotOf come) at) (found level next) ⌝ }
+        (walkAt 0 leaves before (spotOf come) at) (found level next) ⌝ }
 {
     if (highest as u32) < level {
         return RunAnswer::Refused(1, at as u64);
@@ -165,7 +164,7 @@ fn after_count(
     requires { ⌜ level ≤ highest ⌝ }
     requires { ⌜ leaves ≤ limit ⌝ }
     ensures { λ r. ⌜ runOf r ≡ afterCount (2 ^ bits) highest k
-        (standing leaves 0 (spotOf come) at) (found level counted) (found count next) ⌝ }
+        (walkAt 0 leaves 0 (spotOf come) at) (found level counted) (found count next) ⌝ }
 {
     if count == 0 {
         return RunAnswer::Refused(21, counted as u64);

@@ -1,60 +1,88 @@
 -- `run` meets its contract: each turn lays what is left of a root, or of the run. Assumes nothing.
-use mathlib.Core.Path.{_≡_, refl, subst}
-use Prim.Native.Nat.{ℕ, _+_, _-_, _*_, _/_, _%_, _^_, _≤_, _<_}
+use mathlib.Core.Path.{_≡_, refl}
+use Prim.Native.Nat.{_-_}
 use native.Mathlib.Omega.{arith}
-use native.Mathlib.Nat.{mod-lt}
 use borrow.Author.Needs.{needs}
-use Rattle.leaves.specs.Leaves.{span}
-use Rattle.leaves.proofs.Stretches.{roots-long, levels-long, positions-long}
-use Rattle.format.proofs.Spots.{left-bits, level-bits, some-level, end-small}
-use Rattle.reader.proofs.Laying.{Laid, laid-next, laid-all-of, root-low}
+use Rattle.leaves.specs.Leaves.{columns}
+use Rattle.format.proofs.Spots.{left-bits, level-bits}
+use Rattle.sounding.specs.Answers.{spotOf}
+use Rattle.reader.proofs.Laying.{Laid, laid-start, position-below, root-low, roots-kept, levels-kept, positions-kept, laid-full, laid-within, some-each, each-small, first-below, end-low, laid-run}
 use Rattle.reader.proofs.fill.run.Statement.{statement}
 use Rattle.reader.proofs.fill.run.Tie as tie
 
 abbrev Inv-loop : tie.InvT-loop
-Inv-loop bits highest level count spot at roots₀ levels₀ positions₀ wide each first done₀ roots levels positions done =
-    (done ≤ count) × ((narrow : bits * highest ≤ 63) → (shallow : level ≤ highest) → (proper : spot .cell < (2 ^ bits) ^ highest) → (whole : spot .cell % span (2 ^ bits) highest level ≡ 0) → Laid bits highest level narrow shallow (spot .root) (spot .cell) count proper whole at done roots₀ levels₀ positions₀ roots levels positions)
+Inv-loop bits highest level count at roots₀ levels₀ positions₀ narrow each root₀ position₀ done₀ roots levels positions root position done =
+    Laid level each count root₀ position₀ at (columns roots₀ levels₀ positions₀) done root position (columns roots levels positions)
 
 abbrev μ-loop : tie.MeasureT-loop
-μ-loop bits highest level count spot at roots₀ levels₀ positions₀ wide each first done₀ roots levels positions done = count - done
+μ-loop bits highest level count at roots₀ levels₀ positions₀ narrow each root₀ position₀ done₀ roots levels positions root position done = count - done
 
-mul-wide : tie.Need-mul-wide Inv-loop μ-loop
-mul-wide c = omega (arith, level-bits (c .before .before .before .args .bits) (c .before .before .before .args .highest) (c .before .before .before .args .level) (c .before .before .before .pre .1 .0) (c .before .before .before .pre .1 .1 .0))
+sub-narrow : tie.Need-sub-narrow Inv-loop μ-loop
+sub-narrow c =
+    let start = c .before .before .before in
+    let a = start .args in
+    let f = start .pre .0 in
+    f .shallow
+
+mul-narrow : tie.Need-mul-narrow Inv-loop μ-loop
+mul-narrow c =
+    let start = c .before .before .before in
+    let a = start .args in
+    let f = start .pre .0 in
+    omega (arith, left-bits (a .bits) (a .highest) (a .level) (f .narrow) (f .shallow))
+
+mul-each : tie.Need-mul-each Inv-loop μ-loop
+mul-each c =
+    let start = c .before .before .before in
+    let a = start .args in
+    let f = start .pre .0 in
+    omega (arith, level-bits (a .bits) (a .highest) (a .level) (f .narrow) (f .shallow))
 
 cast-each : tie.Need-cast-each Inv-loop μ-loop
-cast-each c = omega (arith, level-bits (c .before .before .before .args .bits) (c .before .before .before .args .highest) (c .before .before .before .args .level) (c .before .before .before .pre .1 .0) (c .before .before .before .pre .1 .1 .0))
+cast-each c =
+    let start = c .before .before .before in
+    let a = start .args in
+    let f = start .pre .0 in
+    omega (arith, level-bits (a .bits) (a .highest) (a .level) (f .narrow) (f .shallow))
 
 shl-each : tie.Need-shl-each Inv-loop μ-loop
-shl-each c = level-bits (c .before .before .before .args .bits) (c .before .before .before .args .highest) (c .before .before .before .args .level) (c .before .before .before .pre .1 .0) (c .before .before .before .pre .1 .1 .0)
+shl-each c =
+    let start = c .before .before .before in
+    let a = start .args in
+    let f = start .pre .0 in
+    level-bits (a .bits) (a .highest) (a .level) (f .narrow) (f .shallow)
 
-sub-first : tie.Need-sub-first Inv-loop μ-loop
-sub-first c = search needs
+cast-position : tie.Need-cast-position Inv-loop μ-loop
+cast-position c =
+    let start = c .before .before .before in
+    let a = start .args in
+    let f = start .pre .0 in
+    omega (arith, left-bits (a .bits) (a .highest) (a .level) (f .narrow) (f .shallow))
 
-mul-first : tie.Need-mul-first Inv-loop μ-loop
-mul-first c = omega (arith, left-bits (c .before .before .before .args .bits) (c .before .before .before .args .highest) (c .before .before .before .args .level) (c .before .before .before .pre .1 .0) (c .before .before .before .pre .1 .1 .0))
-
-cast-first : tie.Need-cast-first Inv-loop μ-loop
-cast-first c = omega (arith, left-bits (c .before .before .before .args .bits) (c .before .before .before .args .highest) (c .before .before .before .args .level) (c .before .before .before .pre .1 .0) (c .before .before .before .pre .1 .1 .0))
-
-shr-first : tie.Need-shr-first Inv-loop μ-loop
-shr-first c = left-bits (c .before .before .before .before .args .bits) (c .before .before .before .before .args .highest) (c .before .before .before .before .args .level) (c .before .before .before .before .pre .1 .0) (c .before .before .before .before .pre .1 .1 .0)
+shr-position : tie.Need-shr-position Inv-loop μ-loop
+shr-position c =
+    let start = c .before .before .before .before in
+    let a = start .args in
+    let f = start .pre .0 in
+    left-bits (a .bits) (a .highest) (a .level) (f .narrow) (f .shallow)
 
 loop-holds : tie.Need-loop-holds Inv-loop μ-loop
-loop-holds c = (omega arith, λ narrow shallow proper whole. record { in-roots = refl; in-levels = refl; in-positions = refl })
-
-add-position : tie.Need-add-position Inv-loop μ-loop
-add-position c = omega (arith, end-small (c .before .before .before .before .before .before .args .bits) (c .before .before .before .before .before .before .args .highest) (c .before .before .before .before .before .before .args .level) (c .before .before .before .before .before .before .pre .1 .0) (c .before .before .before .before .before .before .pre .1 .1 .0) (c .before .before .before .before .before .before .args .spot .root) (c .before .before .before .before .before .before .args .spot .cell) (c .before .loop .done) (c .before .before .before .before .before .before .pre .1 .1 .1 .0) (omega (arith, (c .before .loop .inv .0), (c .before .before .before .before .before .before .fits .count))))
-
-rem-position : tie.Need-rem-position Inv-loop μ-loop
-rem-position c = some-level (c .before .before .before .before .before .before .args .bits) (c .before .before .before .before .before .before .args .highest) (c .before .before .before .before .before .before .args .level) (c .before .before .before .before .before .before .pre .1 .0) (c .before .before .before .before .before .before .pre .1 .1 .0)
+loop-holds c =
+    let start = c .before .before .before .before in
+    let a = start .args in
+    let f = start .pre .0 in
+    laid-start (a .level) _ (a .count) (a .come .root) _ (a .at) _ (first-below (a .bits) (a .highest) (a .level) (a .count) (spotOf (a .come)) f)
 
 sub-least : tie.Need-sub-least Inv-loop μ-loop
 sub-least c =
-    let below = mod-lt ((c .before .before .before .before .before .before .args .spot .cell) / 2 ^ ((c .before .before .before .before .before .before .args .bits) * ((c .before .before .before .before .before .before .args .highest) - (c .before .before .before .before .before .before .args .level))) + (c .before .loop .done)) (some-level (c .before .before .before .before .before .before .args .bits) (c .before .before .before .before .before .before .args .highest) (c .before .before .before .before .before .before .args .level) (c .before .before .before .before .before .before .pre .1 .0) (c .before .before .before .before .before .before .pre .1 .1 .0)) in
-    omega (arith, below)
+    let l = c .before .loop in
+    let start = c .before .before .before .before .before .before in
+    let a = start .args in
+    let f = start .pre .0 in
+    omega (arith, position-below _ _ _ _ _ _ _ _ _ _ _ (l .inv) (some-each (a .bits) (a .highest) (a .level) (a .count) (spotOf (a .come)) f))
 
 sub-least-2 : tie.Need-sub-least-2 Inv-loop μ-loop
-sub-least-2 c = omega (arith, (c .loop-test .taken))
+sub-least-2 c = omega (arith, c .loop-test .taken)
 
 least-requires : tie.Need-least-requires Inv-loop μ-loop
 least-requires c κs = search needs
@@ -62,51 +90,123 @@ least-requires c κs = search needs
 add-lay : tie.Need-add-lay Inv-loop μ-loop
 add-lay c = search needs
 
-add-lay-2 : tie.Need-add-lay-2 Inv-loop μ-loop
-add-lay-2 c = omega (arith, end-small (c .before .before .before .before .before .before .before .args .bits) (c .before .before .before .before .before .before .before .args .highest) (c .before .before .before .before .before .before .before .args .level) (c .before .before .before .before .before .before .before .pre .1 .0) (c .before .before .before .before .before .before .before .pre .1 .1 .0) (c .before .before .before .before .before .before .before .args .spot .root) (c .before .before .before .before .before .before .before .args .spot .cell) (c .before .before .loop .done) (c .before .before .before .before .before .before .before .pre .1 .1 .1 .0) (omega (arith, (c .before .before .loop .inv .0), (c .before .before .before .before .before .before .before .fits .count))))
-
 cast-lay : tie.Need-cast-lay Inv-loop μ-loop
-cast-lay c = omega (arith, level-bits (c .before .before .before .before .before .before .before .args .bits) (c .before .before .before .before .before .before .before .args .highest) (c .before .before .before .before .before .before .before .args .level) (c .before .before .before .before .before .before .before .pre .1 .0) (c .before .before .before .before .before .before .before .pre .1 .1 .0))
-
-shr-lay : tie.Need-shr-lay Inv-loop μ-loop
-shr-lay c = level-bits (c .before .before .before .before .before .before .before .args .bits) (c .before .before .before .before .before .before .before .args .highest) (c .before .before .before .before .before .before .before .args .level) (c .before .before .before .before .before .before .before .pre .1 .0) (c .before .before .before .before .before .before .before .pre .1 .1 .0)
-
-add-lay-3 : tie.Need-add-lay-3 Inv-loop μ-loop
-add-lay-3 c = omega (arith, root-low (c .before .before .before .before .before .before .before .before .args .bits) (c .before .before .before .before .before .before .before .before .args .highest) (c .before .before .before .before .before .before .before .before .args .level) (c .before .before .before .before .before .before .before .before .pre .1 .0) (c .before .before .before .before .before .before .before .before .pre .1 .1 .0) (c .before .before .before .before .before .before .before .before .args .spot .root) (c .before .before .before .before .before .before .before .before .args .spot .cell) (c .before .before .before .before .before .before .before .before .args .count) (c .before .before .before .before .before .before .before .before .pre .1 .1 .1 .0) (c .before .before .before .before .before .before .before .before .pre .1 .1 .1 .1 .0) (c .before .before .before .loop .done) (c .before .before .before .loop .inv .0) (c .before .before .before .before .before .before .before .before .pre .1 .1 .1 .1 .1 .0))
-
-cast-lay-2 : tie.Need-cast-lay-2 Inv-loop μ-loop
-cast-lay-2 c = omega (arith, root-low (c .before .before .before .before .before .before .before .before .args .bits) (c .before .before .before .before .before .before .before .before .args .highest) (c .before .before .before .before .before .before .before .before .args .level) (c .before .before .before .before .before .before .before .before .pre .1 .0) (c .before .before .before .before .before .before .before .before .pre .1 .1 .0) (c .before .before .before .before .before .before .before .before .args .spot .root) (c .before .before .before .before .before .before .before .before .args .spot .cell) (c .before .before .before .before .before .before .before .before .args .count) (c .before .before .before .before .before .before .before .before .pre .1 .1 .1 .0) (c .before .before .before .before .before .before .before .before .pre .1 .1 .1 .1 .0) (c .before .before .before .loop .done) (c .before .before .before .loop .inv .0) (c .before .before .before .before .before .before .before .before .pre .1 .1 .1 .1 .1 .0))
+cast-lay c =
+    let l = c .before .before .loop in
+    let start = c .before .before .before .before .before .before .before in
+    let a = start .args in
+    let f = start .pre .0 in
+    omega (arith, root-low _ _ _ _ _ _ _ _ _ _ _ (l .inv) (some-each (a .bits) (a .highest) (a .level) (a .count) (spotOf (a .come)) f) (end-low (a .bits) (a .highest) (a .level) (a .count) (spotOf (a .come)) f))
 
 lay-requires : tie.Need-lay-requires Inv-loop μ-loop
 lay-requires c κs = search needs
 
 add-done : tie.Need-add-done Inv-loop μ-loop
-add-done c = omega (arith, (c .before .before .before .before .before .before .before .before .before .before .before .least .ensures .1 .0), (c .before .before .before .before .before .before .before .before .before .before .before .before .loop-test .taken), (c .before .before .before .before .before .before .before .before .before .before .before .before .before .before .before .before .before .before .fits .count))
+add-done c =
+    let many = c .before .before .before .before .before .before .before .before .before .before .least .ensures in
+    omega (arith, many .1 .0, c .before .before .before .before .before .before .before .before .before .before .before .loop-test .taken, c .before .before .before .before .before .before .before .before .before .before .before .before .before .before .before .before .before .fits .count)
+
+add-position : tie.Need-add-position Inv-loop μ-loop
+add-position c =
+    let l = c .before .before .before .before .before .before .before .before .before .before .before .before .loop in
+    let start = c .before .before .before .before .before .before .before .before .before .before .before .before .before .before .before .before .before in
+    let a = start .args in
+    let f = start .pre .0 in
+    omega (arith, c .before .before .before .before .before .before .before .before .before .before .least .ensures .0, position-below _ _ _ _ _ _ _ _ _ _ _ (l .inv) (some-each (a .bits) (a .highest) (a .level) (a .count) (spotOf (a .come)) f), each-small (a .bits) (a .highest) (a .level) (a .count) (spotOf (a .come)) f)
+
+add-root : tie.Need-add-root Inv-loop μ-loop
+add-root c =
+    let l = c .before .before .before .before .before .before .before .before .before .before .before .before .before .loop in
+    let start = c .before .before .before .before .before .before .before .before .before .before .before .before .before .before .before .before .before .before in
+    let a = start .args in
+    let f = start .pre .0 in
+    omega (arith, root-low _ _ _ _ _ _ _ _ _ _ _ (l .inv) (some-each (a .bits) (a .highest) (a .level) (a .count) (spotOf (a .come)) f) (end-low (a .bits) (a .highest) (a .level) (a .count) (spotOf (a .come)) f))
 
 loop-less : tie.Need-loop-less Inv-loop μ-loop
 loop-less c =
-    let below = mod-lt ((c .before .before .before .before .before .before .before .before .before .before .before .before .before .before .before .before .before .before .args .spot .cell) / 2 ^ ((c .before .before .before .before .before .before .before .before .before .before .before .before .before .before .before .before .before .before .args .bits) * ((c .before .before .before .before .before .before .before .before .before .before .before .before .before .before .before .before .before .before .args .highest) - (c .before .before .before .before .before .before .before .before .before .before .before .before .before .before .before .before .before .before .args .level))) + (c .before .before .before .before .before .before .before .before .before .before .before .before .before .loop .done)) (some-level (c .before .before .before .before .before .before .before .before .before .before .before .before .before .before .before .before .before .before .args .bits) (c .before .before .before .before .before .before .before .before .before .before .before .before .before .before .before .before .before .before .args .highest) (c .before .before .before .before .before .before .before .before .before .before .before .before .before .before .before .before .before .before .args .level) (c .before .before .before .before .before .before .before .before .before .before .before .before .before .before .before .before .before .before .pre .1 .0) (c .before .before .before .before .before .before .before .before .before .before .before .before .before .before .before .before .before .before .pre .1 .1 .0)) in
-    let some = (c .before .before .before .before .before .before .before .before .before .before .before .least .ensures .1 .1) (omega (arith, below)) (omega (arith, (c .before .before .before .before .before .before .before .before .before .before .before .before .loop-test .taken))) in
-    omega (arith, (c .before .before .before .before .before .before .before .before .before .before .before .least .ensures .1 .0), (c .before .before .before .before .before .before .before .before .before .before .before .before .loop-test .taken), some)
+    let l = c .before .before .before .before .before .before .before .before .before .before .before .before .before .loop in
+    let start = c .before .before .before .before .before .before .before .before .before .before .before .before .before .before .before .before .before .before in
+    let a = start .args in
+    let f = start .pre .0 in
+    let taken = c .before .before .before .before .before .before .before .before .before .before .before .before .loop-test .taken in
+    let many = c .before .before .before .before .before .before .before .before .before .before .before .least .ensures in
+    let some = many .1 .1 (omega (arith, position-below _ _ _ _ _ _ _ _ _ _ _ (l .inv) (some-each (a .bits) (a .highest) (a .level) (a .count) (spotOf (a .come)) f))) (omega (arith, taken)) in
+    omega (arith, taken, many .1 .0, some)
 
 loop-again : tie.Need-loop-again Inv-loop μ-loop
 loop-again c =
-    let within : (c .before .before .before .before .before .before .before .before .before .before .before .before .before .loop .done) + (c .before .before .before .before .before .before .before .before .before .before .before .least .result) ≤ (c .before .before .before .before .before .before .before .before .before .before .before .before .before .before .before .before .before .before .args .count) = omega (arith, (c .before .before .before .before .before .before .before .before .before .before .before .least .ensures .1 .0), (c .before .before .before .before .before .before .before .before .before .before .before .before .loop-test .taken)) in
-    (within, λ narrow shallow proper whole. laid-next (c .before .before .before .before .before .before .before .before .before .before .before .before .before .before .before .before .before .before .args .bits) (c .before .before .before .before .before .before .before .before .before .before .before .before .before .before .before .before .before .before .args .highest) (c .before .before .before .before .before .before .before .before .before .before .before .before .before .before .before .before .before .before .args .level) narrow shallow (c .before .before .before .before .before .before .before .before .before .before .before .before .before .before .before .before .before .before .args .spot .root) (c .before .before .before .before .before .before .before .before .before .before .before .before .before .before .before .before .before .before .args .spot .cell) (c .before .before .before .before .before .before .before .before .before .before .before .before .before .before .before .before .before .before .args .count) proper whole (c .before .before .before .before .before .before .before .before .before .before .before .before .before .before .before .before .before .before .args .at) (c .before .before .before .before .before .before .before .before .before .before .before .before .before .loop .done) (c .before .before .before .before .before .before .before .before .before .before .before .least .result) ((c .before .before .before .before .before .before .before .before .before .before .before .before .before .loop .inv .1) narrow shallow proper whole) (c .before .before .before .before .before .before .before .before .before .before .before .least .ensures .0) within (c .before .before .before .before .before .before .before .before .before .before .before .before .before .before .before .before .before .before .pre .1 .1 .1 .1 .1 .1 .0) (c .before .before .before .before .before .before .before .before .before .before .before .before .before .before .before .before .before .before .pre .1 .1 .1 .1 .1 .1 .1 .0) (c .before .before .before .before .before .before .before .before .before .before .before .before .before .before .before .before .before .before .pre .1 .1 .1 .1 .1 .1 .1 .1) (c .before .before .before .before .before .before .lay .ensures))
+    let l = c .before .before .before .before .before .before .before .before .before .before .before .before .before .loop in
+    let start = c .before .before .before .before .before .before .before .before .before .before .before .before .before .before .before .before .before .before in
+    let a = start .args in
+    let f = start .pre .0 in
+    let many = c .before .before .before .before .before .before .before .before .before .before .before .least .ensures in
+    laid-full _ _ _ _ _ _ _ _ _ _ _ (l .inv) (some-each (a .bits) (a .highest) (a .level) (a .count) (spotOf (a .come)) f) (each-small (a .bits) (a .highest) (a .level) (a .count) (spotOf (a .come)) f) (start .pre .1) _ _ _ (many .0) (omega (arith, many .1 .0, c .before .before .before .before .before .before .before .before .before .before .before .before .loop-test .taken)) (c .before .before .before .before .before .before .before .lay .ensures) (c .if1 .taken)
+
+loop-less-2 : tie.Need-loop-less-2 Inv-loop μ-loop
+loop-less-2 c =
+    let l = c .before .before .before .before .before .before .before .before .before .before .before .before .before .loop in
+    let start = c .before .before .before .before .before .before .before .before .before .before .before .before .before .before .before .before .before .before in
+    let a = start .args in
+    let f = start .pre .0 in
+    let taken = c .before .before .before .before .before .before .before .before .before .before .before .before .loop-test .taken in
+    let many = c .before .before .before .before .before .before .before .before .before .before .before .least .ensures in
+    let some = many .1 .1 (omega (arith, position-below _ _ _ _ _ _ _ _ _ _ _ (l .inv) (some-each (a .bits) (a .highest) (a .level) (a .count) (spotOf (a .come)) f))) (omega (arith, taken)) in
+    omega (arith, taken, many .1 .0, some)
+
+loop-again-2 : tie.Need-loop-again-2 Inv-loop μ-loop
+loop-again-2 c =
+    let l = c .before .before .before .before .before .before .before .before .before .before .before .before .before .loop in
+    let start = c .before .before .before .before .before .before .before .before .before .before .before .before .before .before .before .before .before .before in
+    let a = start .args in
+    let f = start .pre .0 in
+    let many = c .before .before .before .before .before .before .before .before .before .before .before .least .ensures in
+    laid-within _ _ _ _ _ _ _ _ _ _ _ (l .inv) (some-each (a .bits) (a .highest) (a .level) (a .count) (spotOf (a .come)) f) (each-small (a .bits) (a .highest) (a .level) (a .count) (spotOf (a .come)) f) (start .pre .1) _ _ _ (many .0) (omega (arith, many .1 .0, c .before .before .before .before .before .before .before .before .before .before .before .before .loop-test .taken)) (c .before .before .before .before .before .before .before .lay .ensures) (c .if1 .left)
+
+cast-t17 : tie.Need-cast-t17 Inv-loop μ-loop
+cast-t17 c =
+    let start = c .before .before .before .before .before .before in
+    let a = start .args in
+    let f = start .pre .0 in
+    omega (arith, left-bits (a .bits) (a .highest) (a .level) (f .narrow) (f .shallow))
+
+shl-t33 : tie.Need-shl-t33 Inv-loop μ-loop
+shl-t33 c =
+    let start = c .before .before .before .before .before .before in
+    let a = start .args in
+    let f = start .pre .0 in
+    left-bits (a .bits) (a .highest) (a .level) (f .narrow) (f .shallow)
 
 same-length : tie.Need-same-length Inv-loop μ-loop
-same-length c = roots-long ((c .before .loop .inv .1) (c .before .before .before .before .before .before .pre .1 .0) (c .before .before .before .before .before .before .pre .1 .1 .0) (c .before .before .before .before .before .before .pre .1 .1 .1 .0) (c .before .before .before .before .before .before .pre .1 .1 .1 .1 .0))
+same-length c =
+    let l = c .before .loop in
+    let start = c .before .before .before .before .before .before in
+    let a = start .args in
+    let f = start .pre .0 in
+    roots-kept _ _ _ _ _ _ _ _ _ _ _ (l .inv) (some-each (a .bits) (a .highest) (a .level) (a .count) (spotOf (a .come)) f)
 
 same-length-2 : tie.Need-same-length-2 Inv-loop μ-loop
-same-length-2 c = levels-long ((c .before .loop .inv .1) (c .before .before .before .before .before .before .pre .1 .0) (c .before .before .before .before .before .before .pre .1 .1 .0) (c .before .before .before .before .before .before .pre .1 .1 .1 .0) (c .before .before .before .before .before .before .pre .1 .1 .1 .1 .0))
+same-length-2 c =
+    let l = c .before .loop in
+    let start = c .before .before .before .before .before .before in
+    let a = start .args in
+    let f = start .pre .0 in
+    levels-kept _ _ _ _ _ _ _ _ _ _ _ (l .inv) (some-each (a .bits) (a .highest) (a .level) (a .count) (spotOf (a .come)) f)
 
 same-length-3 : tie.Need-same-length-3 Inv-loop μ-loop
-same-length-3 c = positions-long ((c .before .loop .inv .1) (c .before .before .before .before .before .before .pre .1 .0) (c .before .before .before .before .before .before .pre .1 .1 .0) (c .before .before .before .before .before .before .pre .1 .1 .1 .0) (c .before .before .before .before .before .before .pre .1 .1 .1 .1 .0))
+same-length-3 c =
+    let l = c .before .loop in
+    let start = c .before .before .before .before .before .before in
+    let a = start .args in
+    let f = start .pre .0 in
+    positions-kept _ _ _ _ _ _ _ _ _ _ _ (l .inv) (some-each (a .bits) (a .highest) (a .level) (a .count) (spotOf (a .come)) f)
 
 returns : tie.Need-returns Inv-loop μ-loop
 returns c =
-    let all : (c .before .loop .done) ≡ (c .before .before .before .before .before .before .args .count) = omega (arith, (c .before .loop .inv .0), (c .loop-test .left)) in
-    laid-all-of (c .before .before .before .before .before .before .args .bits) (c .before .before .before .before .before .before .args .highest) (c .before .before .before .before .before .before .args .level) (c .before .before .before .before .before .before .pre .1 .0) (c .before .before .before .before .before .before .pre .1 .1 .0) (c .before .before .before .before .before .before .args .spot .root) (c .before .before .before .before .before .before .args .spot .cell) (c .before .before .before .before .before .before .args .count) (c .before .before .before .before .before .before .pre .1 .1 .1 .0) (c .before .before .before .before .before .before .pre .1 .1 .1 .1 .0) (c .before .before .before .before .before .before .args .at) (subst (λ (d : ℕ). Laid (c .before .before .before .before .before .before .args .bits) (c .before .before .before .before .before .before .args .highest) (c .before .before .before .before .before .before .args .level) (c .before .before .before .before .before .before .pre .1 .0) (c .before .before .before .before .before .before .pre .1 .1 .0) (c .before .before .before .before .before .before .args .spot .root) (c .before .before .before .before .before .before .args .spot .cell) (c .before .before .before .before .before .before .args .count) (c .before .before .before .before .before .before .pre .1 .1 .1 .0) (c .before .before .before .before .before .before .pre .1 .1 .1 .1 .0) (c .before .before .before .before .before .before .args .at) d (c .before .before .before .before .before .before .args .roots .now) (c .before .before .before .before .before .before .args .levels .now) (c .before .before .before .before .before .before .args .positions .now) (c .before .loop .roots) (c .before .loop .levels) (c .before .loop .positions)) all ((c .before .loop .inv .1) (c .before .before .before .before .before .before .pre .1 .0) (c .before .before .before .before .before .before .pre .1 .1 .0) (c .before .before .before .before .before .before .pre .1 .1 .1 .0) (c .before .before .before .before .before .before .pre .1 .1 .1 .1 .0)))
+    let l = c .before .loop in
+    let start = c .before .before .before .before .before .before in
+    let a = start .args in
+    let f = start .pre .0 in
+    laid-run (a .bits) (a .highest) (a .level) (a .count) (spotOf (a .come)) f (a .at) _ _ _ _ _ (l .inv) (omega (arith, c .loop-test .left))
 
 pub run-spec : {M : Type 1} → statement M
 run-spec =
@@ -114,29 +214,29 @@ run-spec =
     (tie.spec
     Inv-loop
     μ-loop
-    mul-wide
+    sub-narrow
+    mul-narrow
+    mul-each
     cast-each
     shl-each
-    sub-first
-    mul-first
-    cast-first
-    shr-first
+    cast-position
+    shr-position
     loop-holds
-    add-position
-    rem-position
     sub-least
     sub-least-2
     least-requires
     add-lay
-    add-lay-2
     cast-lay
-    shr-lay
-    add-lay-3
-    cast-lay-2
     lay-requires
     add-done
+    add-position
+    add-root
     loop-less
     loop-again
+    loop-less-2
+    loop-again-2
+    cast-t17
+    shl-t33
     same-length
     same-length-2
     same-length-3

@@ -6,7 +6,7 @@ use borrow.Author.Needs.{needs}
 use Rattle.numbers.specs.Numbers.{found}
 use Rattle.numbers.specs.Answers.{foundOf}
 use Rattle.sounding.specs.Answers.{spotOf}
-use Rattle.sounding.specs.Inner.{standing}
+use Rattle.format.specs.Reading.{walkAt}
 use Rattle.format.proofs.Tests.{too-deep, same-level, count-read, count-refused}
 use Rattle.sounding.proofs.walk.after_level.Statement.{statement}
 use Rattle.sounding.proofs.walk.after_level.Tie as tie
@@ -15,13 +15,13 @@ returns : tie.Need-returns
 returns c =
     let start = c .before .before in
     let a = start .args in
-    sym (too-deep (2 ^ (a .bits)) (a .highest) (a .k) (standing (a .leaves) (a .before) (spotOf (a .come)) (a .at)) (found (a .level) (a .next)) (a .bytes .now) (c .if1 .taken))
+    sym (too-deep (2 ^ (a .bits)) (a .highest) (a .k) (walkAt 0 (a .leaves) (a .before) (spotOf (a .come)) (a .at)) (found (a .level) (a .next)) (a .bytes .now) (c .if1 .taken))
 
 returns-2 : tie.Need-returns-2
 returns-2 c =
     let start = c .before .before .before in
     let a = start .args in
-    sym (same-level (2 ^ (a .bits)) (a .highest) (a .k) (standing (a .leaves) (a .before) (spotOf (a .come)) (a .at)) (found (a .level) (a .next)) (a .bytes .now) (c .before .if1 .left) (c .if2 .taken))
+    sym (same-level (2 ^ (a .bits)) (a .highest) (a .k) (walkAt 0 (a .leaves) (a .before) (spotOf (a .come)) (a .at)) (found (a .level) (a .next)) (a .bytes .now) (c .before .if1 .left) (c .if2 .taken))
 
 number-at-requires : tie.Need-number-at-requires
 number-at-requires c κs = search needs
@@ -44,13 +44,13 @@ returns-3 : tie.Need-returns-3
 returns-3 c =
     let start = c .before .before .before .before .before .before .before .before in
     let a = start .args in
-    (c .after-count .ensures) ∙ sym (count-read (2 ^ (a .bits)) (a .highest) (a .k) (standing (a .leaves) (a .before) (spotOf (a .come)) (a .at)) (found (a .level) (a .next)) (a .bytes .now) (c .before .before .before .before .before .before .if1 .left) (c .before .before .before .before .before .if2 .left) _ (sym (c .before .before .before .before .number-at .ensures) ∙ ap foundOf (c .before .before .count .given .1)))
+    (c .after-count .ensures) ∙ sym (count-read (2 ^ (a .bits)) (a .highest) (a .k) (walkAt 0 (a .leaves) (a .before) (spotOf (a .come)) (a .at)) (found (a .level) (a .next)) (a .bytes .now) (c .before .before .before .before .before .before .if1 .left) (c .before .before .before .before .before .if2 .left) _ (sym (c .before .before .before .before .number-at .ensures) ∙ ap foundOf (c .before .before .count .given .1)))
 
 returns-4 : tie.Need-returns-4
 returns-4 c =
     let start = c .before .before .before .before .before .before .before in
     let a = start .args in
-    sym (count-refused (2 ^ (a .bits)) (a .highest) (a .k) (standing (a .leaves) (a .before) (spotOf (a .come)) (a .at)) (found (a .level) (a .next)) (a .bytes .now) (c .before .before .before .before .before .if1 .left) (c .before .before .before .before .if2 .left) _ _ (sym (c .before .before .before .number-at .ensures) ∙ ap foundOf (c .before .number .given .1)))
+    sym (count-refused (2 ^ (a .bits)) (a .highest) (a .k) (walkAt 0 (a .leaves) (a .before) (spotOf (a .come)) (a .at)) (found (a .level) (a .next)) (a .bytes .now) (c .before .before .before .before .before .if1 .left) (c .before .before .before .before .if2 .left) _ _ (sym (c .before .before .before .number-at .ensures) ∙ ap foundOf (c .before .number .given .1)))
 
 pub after-level-spec : {M : Type 1} → statement M
 after-level-spec =

@@ -6,17 +6,18 @@ use native.Mathlib.Omega.{arith}
 use lib.Pow.{pow-pos}
 use borrow.Author.Needs.{needs}
 use Rattle.leaves.specs.Leaves.{spotAt}
+use Rattle.format.specs.Reading.{walkAt}
 use Rattle.sounding.specs.Answers.{spotOf}
 use Rattle.sounding.specs.Inner.{runOf}
 use Rattle.format.proofs.Taking.{run-taken}
 use Rattle.format.proofs.Spots.{few-levels, fits-whole}
-use Rattle.sounding.proofs.Counting.{walking, Going, going-start, going-next, going-stops, going-ends, told}
+use Rattle.sounding.proofs.Counting.{Going, going-start, going-next, going-stops, going-ends, told}
 use Rattle.sounding.proofs.walk.runs.Statement.{statement}
 use Rattle.sounding.proofs.walk.runs.Tie as tie
 
 abbrev Inv-loop : tie.InvT-loop
 Inv-loop bits highest k runs at bytes at₀ before₀ come₀ leaves₀ kept₀ at' before come leaves kept =
-    (kept ≤ runs) × Going (2 ^ bits) highest k (pow-pos bits) bytes runs at (runs - kept) (walking kept leaves before (spotOf come) at')
+    (kept ≤ runs) × Going (2 ^ bits) highest k (pow-pos bits) bytes runs at (runs - kept) (walkAt kept leaves before (spotOf come) at')
 
 abbrev μ-loop : tie.MeasureT-loop
 μ-loop bits highest k runs at bytes at₀ before₀ come₀ leaves₀ kept₀ at' before come leaves kept = runs - kept
@@ -28,7 +29,7 @@ loop-holds : tie.Need-loop-holds Inv-loop μ-loop
 loop-holds c =
     let a = c .before .args in (
       omega arith,
-      subst⁻¹ (λ (l : ℕ). Going (2 ^ (a .bits)) (a .highest) (a .k) (pow-pos (a .bits)) (a .bytes .now) (a .runs) (a .at) (a .runs - 0) (walking 0 0 l (spotAt 0 0) (a .at)))
+      subst⁻¹ (λ (l : ℕ). Going (2 ^ (a .bits)) (a .highest) (a .k) (pow-pos (a .bits)) (a .bytes .now) (a .runs) (a .at) (a .runs - 0) (walkAt 0 0 l (spotAt 0 0) (a .at)))
       (add-one (a .highest))
       (going-start (2 ^ (a .bits)) (a .highest) (a .k) (pow-pos (a .bits)) (a .bytes .now) (a .runs) (a .at)),
     )
@@ -57,7 +58,7 @@ end-from-requires c κs =
     let l = at-loop .loop in
     let going = l .inv .1 in
     let found = sym (c .before .before .before .run-at .ensures) ∙ ap runOf (c .before .level .given .1) in
-    let t = run-taken (2 ^ (a .bits)) (a .highest) (a .k) (a .bytes .now) (walking (l .kept) (l .leaves) (l .before) (spotOf (l .come)) (l .at)) _ found in (
+    let t = run-taken (2 ^ (a .bits)) (a .highest) (a .k) (a .bytes .now) (walkAt (l .kept) (l .leaves) (l .before) (spotOf (l .come)) (l .at)) _ found in (
       record {
         some-bits = start .pre .0;
         narrow = start .pre .1;
@@ -79,7 +80,7 @@ add-leaves c =
     let a = at-loop .before .before .args in
     let l = at-loop .loop in
     let found = sym (c .before .before .before .before .run-at .ensures) ∙ ap runOf (c .before .before .level .given .1) in
-    let t = run-taken (2 ^ (a .bits)) (a .highest) (a .k) (a .bytes .now) (walking (l .kept) (l .leaves) (l .before) (spotOf (l .come)) (l .at)) _ found in
+    let t = run-taken (2 ^ (a .bits)) (a .highest) (a .k) (a .bytes .now) (walkAt (l .kept) (l .leaves) (l .before) (spotOf (l .come)) (l .at)) _ found in
     omega (arith, t .few)
 
 enum-known-number : tie.Need-enum-known-number Inv-loop μ-loop
@@ -90,7 +91,7 @@ returns c =
     let at-loop = c .before .before .before .before .before in
     let a = at-loop .before .before .args in
     let l = at-loop .loop in
-    let w = walking (l .kept) (l .leaves) (l .before) (spotOf (l .come)) (l .at) in
+    let w = walkAt (l .kept) (l .leaves) (l .before) (spotOf (l .come)) (l .at) in
     let found = sym (c .before .before .before .run-at .ensures) ∙ ap runOf (c .before .number .given .1) in
     told _ _ (l .before)
     (going-stops (2 ^ (a .bits)) (a .highest) (a .k) (pow-pos (a .bits)) (a .bytes .now) (a .runs) (a .at) (a .runs - l .kept) w (l .inv .1)
@@ -123,7 +124,7 @@ returns-2 c =
     let at-loop = c .before .before in
     let a = at-loop .before .before .args in
     let l = at-loop .loop in
-    let w = walking (l .kept) (l .leaves) (l .before) (spotOf (l .come)) (l .at) in
+    let w = walkAt (l .kept) (l .leaves) (l .before) (spotOf (l .come)) (l .at) in
     let end =
     going-ends (2 ^ (a .bits)) (a .highest) (a .k) (pow-pos (a .bits)) (a .bytes .now) (a .runs) (a .at) (a .runs - l .kept) w (l .inv .1)
     (omega (arith, c .before .loop-test .left)) in
