@@ -2,14 +2,14 @@
 use mathlib.Core.Path.{_≡_, subst}
 use mathlib.Core.Bool.{Bool, true, false, cond, not}
 use mathlib.Core.List.{List}
-use Prim.Native.Nat.{ℕ, _+_, _-_, _*_, _<_}
+use Prim.Native.Nat.{ℕ, _+_, _-_, _<_}
 use native.Mathlib.Omega.{arith}
 use lib.Dec.{leb, ltb, eqb}
 use lib.ListN.{length}
 use Rattle.paper.specs.Outcome.{Outcome, accepted, refused, refuse-when-at, and-then}
 use Rattle.leaves.specs.Calls.{limit}
-use Rattle.numbers.specs.Numbers.{Found, found, byteAt, numberAt}
-use Rattle.format.specs.Reading.{fits, foundRun, FoundRun, Walk, afterCount, afterLevel, runAt}
+use Rattle.numbers.specs.Numbers.{byteAt, numberAt}
+use Rattle.format.specs.Reading.{fits, Walk, afterCount, afterLevel, runAt}
 
 -- an outcome whose refusal, if it is one, has a number
 abbrev Numbered : {A : Type 0} → Outcome A → Type 0

@@ -1,6 +1,6 @@
 -- Each way out of reading is one case of its call: the columns, the front, the first fault of the runs, the room; else the grid. Assumes nothing.
 use mathlib.Core.Path.{_≡_, refl, ap, _∙_, sym, subst⁻¹}
-use mathlib.Core.Bool.{true, false, not, _&&_, and-eq-true-iff}
+use mathlib.Core.Bool.{true, false, not, and-eq-true-iff}
 use mathlib.Core.List.{List}
 use Prim.Native.Nat.{ℕ, _≤_, _<_}
 use native.Mathlib.Nat.{zero-add}
@@ -10,12 +10,11 @@ use lib.ListN.{length}
 use borrow.Author.Tests.{lt-ltb, le-ltb, eq-eqb, ne-eqb, eqb-true}
 use Rattle.paper.specs.Outcome.{Outcome, accepted, refused, passed, mapped, and-then}
 use Rattle.paper.specs.Memory.{roomFor, Fulfils}
-use Rattle.paper.specs.Readings.{checksOf}
 use Rattle.paper.proofs.Memory.{refuses, accepts}
 use Rattle.tree.specs.Anchors.{HIGHEST}
 use Rattle.leaves.specs.Leaves.{CHILDREN, Leaf, Columns, equalColumns, room, front}
 use Rattle.columns.specs.Laying.{Room}
-use Rattle.format.specs.Reading.{Grid, Head, headAt, headed, Sounded, start, soundFrom, sound}
+use Rattle.format.specs.Reading.{Grid, Head, headAt, headed, start, sound}
 use Rattle.format.proofs.Tests.{passes, stops}
 use Rattle.format.proofs.Following.{leaves-kept, all-kept}
 use Rattle.sounding.specs.Answers.{Tells}

@@ -61,6 +61,16 @@ fn load(
     if (roots.len() as u64) < sounding.leaves {
         return GridAnswer::Refused(14, sounding.leaves);
     }
-    fill::columns(leaves::BITS, tree::HIGHEST, k, runs, at, bytes, roots, levels, positions);
+    fill::columns(
+        leaves::BITS,
+        tree::HIGHEST,
+        k,
+        runs,
+        at,
+        bytes,
+        roots,
+        levels,
+        positions,
+    );
     GridAnswer::Is(k, sounding.leaves)
 }

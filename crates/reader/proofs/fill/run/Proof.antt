@@ -1,5 +1,4 @@
 -- `run` meets its contract: each turn lays what is left of a root, or of the run. Assumes nothing.
-use mathlib.Core.Path.{_≡_, refl}
 use Prim.Native.Nat.{_-_}
 use native.Mathlib.Omega.{arith}
 use borrow.Author.Needs.{needs}

@@ -30,8 +30,8 @@ loop-holds c =
     let a = c .before .args in (
       omega arith,
       subst⁻¹ (λ (l : ℕ). Going (2 ^ (a .bits)) (a .highest) (a .k) (pow-pos (a .bits)) (a .bytes .now) (a .runs) (a .at) (a .runs - 0) (walkAt 0 0 l (spotAt 0 0) (a .at)))
-      (add-one (a .highest))
-      (going-start (2 ^ (a .bits)) (a .highest) (a .k) (pow-pos (a .bits)) (a .bytes .now) (a .runs) (a .at)),
+          (add-one (a .highest))
+          (going-start (2 ^ (a .bits)) (a .highest) (a .k) (pow-pos (a .bits)) (a .bytes .now) (a .runs) (a .at)),
     )
 
 run-at-requires : tie.Need-run-at-requires Inv-loop μ-loop
@@ -113,7 +113,7 @@ loop-again c =
     let found = sym (c .before .before .before .before .run-at .ensures) ∙ ap runOf (c .before .before .level .given .1) in (
       omega (arith, inside),
       going-next (2 ^ (a .bits)) (a .highest) (a .k) (pow-pos (a .bits)) (a .bytes .now) (a .runs) (a .at) (l .kept) (l .leaves) (l .before) (spotOf (l .come)) (l .at)
-      (l .inv .1) inside _ found _ (c .end-from .ensures),
+          (l .inv .1) inside _ found _ (c .end-from .ensures),
     )
 
 ended-requires : tie.Need-ended-requires Inv-loop μ-loop
