@@ -76,5 +76,5 @@ module _ {E : Type 0} (S : Shape E) (W : Lawful S) where
       ∙ of-child (parent n (nth vs j)) t below))
       ∙ families S W .of-children (elementOf S (parent n (nth vs j))) (up-sound (nth vs j) (stands j here) deep) (up-above (nth vs j) (stands j here) deep)
 
-  pub tied : Relatives S
-  tied = record { children = of-child; parents = of-parent; families = of-family }
+  pub relatives : Relatives S
+  relatives = record { children = of-child; parents = of-parent; families = of-family }

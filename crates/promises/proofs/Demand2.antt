@@ -6,6 +6,7 @@ use Rattle.paper.specs.Outcome.{Outcome, accepted, refused, Order, less, same, 
 use Rattle.tree.specs.Shape.{Shape}
 use Rattle.tree.specs.Laws.{Lawful, Faces}
 use Rattle.tree.proofs.RoundTrip.{round-trips}
+use Rattle.tree.proofs.Ancestors.{ancestors}
 use Rattle.tree.proofs.Descent.{positions}
 use Rattle.tree.proofs.Ordering.{total-order}
 use Rattle.tree.proofs.Family.{families}
@@ -32,7 +33,7 @@ use Rattle.leaves.proofs.Ancestors.{cell-laws}
 use Rattle.balance.proofs.Exactly.{exact}
 use Rattle.leaves.proofs.Promised as leaves-laws
 use Rattle.adaption.proofs.Promised as adaption-laws
-use Rattle.adaption.proofs.Elements as adaption-ties
+use Rattle.adaption.proofs.Elements as adaption-relatives
 use Rattle.shares.proofs.Promised as shares-laws
 use native.Mathlib.Omega.{arith}
 use Rattle.line.proofs.Laws as line-laws
@@ -205,7 +206,7 @@ of-lists =
     record {
       listed = leaves-laws.promised 8 21 (omega arith);
       cells = cell-laws prism (prism-laws.lawful 21);
-      relatives = adaption-ties.relatives prism (prism-laws.lawful 21);
+      relatives = adaption-relatives.relatives prism (prism-laws.lawful 21);
       adapted = adaption-laws.promised 8 21 (omega arith);
       shared = shares-laws.promised;
       balanced = exact;

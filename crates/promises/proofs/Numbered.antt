@@ -20,7 +20,7 @@ use Rattle.shares.specs.Shares.{boundaries}
 use Rattle.shares.specs.Calls.{weightFault}
 use Rattle.numbers.specs.Numbers.{found, byteAt, numberAt}
 use Rattle.format.specs.File.{fileOf}
-use Rattle.format.specs.Reading.{opens, head, afterRuns, afterRoots, headAt, Walk, start, keep, fits, leavesFrom, FoundRun, foundRun, afterCount, afterLevel, runAt, preceded, go-on, soundFrom, sound, leavesIf, headed, gridAt}
+use Rattle.format.specs.Reading.{opens, head, afterRuns, afterRoots, headAt, Walk, start, keep, fits, FoundRun, foundRun, afterCount, afterLevel, runAt, Sounded, go-on, soundFrom, sound, leavesIf, headed, gridAt}
 use Rattle.corners.specs.declared.Root.{Root}
 use Rattle.corners.specs.CornerPoints.{rootWithin, cornerPoint}
 use Rattle.fields.specs.Fields.{fields, ended, isNumber}
@@ -154,15 +154,15 @@ module _ (n L : ℕ) (bs : List ℕ) (K : ℕ) where
       when (eqb (k .value) 0) 21 (l .next) refl (when (ltb limit (w .count + k .value)) 15 (l .next) refl
       (when (not (fits n L K (w .come) (l .value) (k .value))) 12 (w .next) refl (fine (foundRun (l .value) (k .value) (k .next)))))))))
 
+  -- the fault is the run's, or that of the runs after it
+  go-on-said : (w : Walk) (o : Outcome FoundRun) (f : FoundRun → Sounded) → Numbered o → ((r : FoundRun) → Numbered (f r .fault)) → Numbered (go-on w o f .fault)
+  go-on-said w (accepted r) f known later = later r
+  go-on-said w (refused number place) f known later = refusal number place (known .said number place refl)
+
   runs-said : (R : ℕ) (w : Walk) → Numbered (soundFrom n L bs K R w .fault)
   unfolding soundFrom
   runs-said zero w = when (not (eqb (w .come .root) K && eqb (w .come .cell) 0)) 12 (w .next) refl (when (ltb (w .next) (length bs)) 22 (w .next) refl (fine tt))
-  runs-said (suc R) w = by (runAt n L bs K w) (run-said w)
-    where
-      by : (o : Outcome FoundRun) → Numbered o
-          → Numbered (go-on w o (λ (r : FoundRun). preceded (leavesFrom n L (w .come) (r .level) (r .count)) (soundFrom n L bs K R (keep n L w r))) .fault)
-      by (accepted r) known = runs-said R (keep n L w r)
-      by (refused number place) known = refusal number place (known .said number place refl)
+  runs-said (suc R) w = go-on-said w (runAt n L bs K w) _ (run-said w) (λ r. runs-said R (keep n L w r))
 
 grid-said : (n L : ℕ) (bs : List ℕ) → Numbered (gridAt n L bs)
 grid-said n L bs =
