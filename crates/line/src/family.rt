@@ -4,12 +4,9 @@ use paper::Fault;
 ghost use mathlib.Core.Path.{_≡_};
 ghost use Prim.Native.Nat.{_<_};
 ghost use lib.ListN.{length};
-ghost use Rattle.paper.specs.Outcome.{checks};
 ghost use Rattle.paper.specs.Readings.{checksOf};
-ghost use Rattle.tree.specs.Words;
-ghost use Rattle.line.specs.Elements.{line};
-ghost use Rattle.line.specs.Columns.{columns, element, elements};
-ghost use Rattle.line.specs.Inner.{Equal, Checked};
+ghost use Rattle.line.specs.Columns.{columns, element};
+ghost use Rattle.line.specs.Inner.{Equal, faults, Checked, siblings};
 
 // An element of the columns.
 fn row(xs: &[u32], levels: &[u8], i: usize) -> Line
@@ -25,7 +22,7 @@ fn row(xs: &[u32], levels: &[u8], i: usize) -> Line
 // The first element that fails a check.
 pub(crate) fn first_fault(xs: &[u32], levels: &[u8]) -> Fault
     requires { ⌜ Equal (columns (now xs) (now levels)) ⌝ }
-    ensures { λ r. ⌜ checksOf r ≡ checks (line .fault) (elements (columns (now (xs .entry)) (now (levels .entry)))) ⌝ }
+    ensures { λ r. ⌜ checksOf r ≡ faults (columns (now (xs .entry)) (now (levels .entry))) ⌝ }
 {
     let mut i = 0;
     while i < xs.len() {
@@ -48,7 +45,7 @@ pub(crate) fn first_fault(xs: &[u32], levels: &[u8]) -> Fault
 // one's parent.
 pub(crate) fn are_siblings(xs: &[u32], levels: &[u8]) -> bool
     requires { ⌜ Checked (columns (now xs) (now levels)) ⌝ }
-    ensures { λ r. ⌜ r ≡ Words.family line (elements (columns (now (xs .entry)) (now (levels .entry)))) ⌝ }
+    ensures { λ r. ⌜ r ≡ siblings (columns (now (xs .entry)) (now (levels .entry))) ⌝ }
 {
     if xs.len() != Line::CHILDREN as usize {
         return false;

@@ -4,12 +4,9 @@ use paper::Fault;
 ghost use mathlib.Core.Path.{_≡_};
 ghost use Prim.Native.Nat.{_<_};
 ghost use lib.ListN.{length};
-ghost use Rattle.paper.specs.Outcome.{checks};
 ghost use Rattle.paper.specs.Readings.{checksOf};
-ghost use Rattle.tree.specs.Words;
-ghost use Rattle.prism.specs.Elements.{prism};
-ghost use Rattle.prism.specs.Columns.{columns, element, elements};
-ghost use Rattle.prism.specs.Inner.{Equal, Checked};
+ghost use Rattle.prism.specs.Columns.{columns, element};
+ghost use Rattle.prism.specs.Inner.{Equal, faults, Checked, siblings};
 
 // An element of the columns.
 fn row(xs: &[u32], ys: &[u32], zs: &[u32], levels: &[u8], kinds: &[u8], i: usize) -> Prism
@@ -28,7 +25,7 @@ fn row(xs: &[u32], ys: &[u32], zs: &[u32], levels: &[u8], kinds: &[u8], i: usize
 // The first element that fails a check.
 pub(crate) fn first_fault(xs: &[u32], ys: &[u32], zs: &[u32], levels: &[u8], kinds: &[u8]) -> Fault
     requires { ⌜ Equal (columns (now xs) (now ys) (now zs) (now levels) (now kinds)) ⌝ }
-    ensures { λ r. ⌜ checksOf r ≡ checks (prism .fault) (elements (columns (now (xs .entry)) (now (ys .entry)) (now (zs .entry)) (now (levels .entry)) (now (kinds .entry)))) ⌝ }
+    ensures { λ r. ⌜ checksOf r ≡ faults (columns (now (xs .entry)) (now (ys .entry)) (now (zs .entry)) (now (levels .entry)) (now (kinds .entry))) ⌝ }
 {
     let mut i = 0;
     while i < xs.len() {
@@ -51,7 +48,7 @@ pub(crate) fn first_fault(xs: &[u32], ys: &[u32], zs: &[u32], levels: &[u8], kin
 // one's parent.
 pub(crate) fn are_siblings(xs: &[u32], ys: &[u32], zs: &[u32], levels: &[u8], kinds: &[u8]) -> bool
     requires { ⌜ Checked (columns (now xs) (now ys) (now zs) (now levels) (now kinds)) ⌝ }
-    ensures { λ r. ⌜ r ≡ Words.family prism (elements (columns (now (xs .entry)) (now (ys .entry)) (now (zs .entry)) (now (levels .entry)) (now (kinds .entry)))) ⌝ }
+    ensures { λ r. ⌜ r ≡ siblings (columns (now (xs .entry)) (now (ys .entry)) (now (zs .entry)) (now (levels .entry)) (now (kinds .entry))) ⌝ }
 {
     if xs.len() != Prism::CHILDREN as usize {
         return false;

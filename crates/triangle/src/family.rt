@@ -4,12 +4,9 @@ use paper::Fault;
 ghost use mathlib.Core.Path.{_≡_};
 ghost use Prim.Native.Nat.{_<_};
 ghost use lib.ListN.{length};
-ghost use Rattle.paper.specs.Outcome.{checks};
 ghost use Rattle.paper.specs.Readings.{checksOf};
-ghost use Rattle.tree.specs.Words;
-ghost use Rattle.triangle.specs.Elements.{triangle};
-ghost use Rattle.triangle.specs.Columns.{columns, element, elements};
-ghost use Rattle.triangle.specs.Inner.{Equal, Checked};
+ghost use Rattle.triangle.specs.Columns.{columns, element};
+ghost use Rattle.triangle.specs.Inner.{Equal, faults, Checked, siblings};
 
 // An element of the columns.
 fn row(xs: &[u32], ys: &[u32], levels: &[u8], kinds: &[u8], i: usize) -> Triangle
@@ -27,7 +24,7 @@ fn row(xs: &[u32], ys: &[u32], levels: &[u8], kinds: &[u8], i: usize) -> Triangl
 // The first element that fails a check.
 pub(crate) fn first_fault(xs: &[u32], ys: &[u32], levels: &[u8], kinds: &[u8]) -> Fault
     requires { ⌜ Equal (columns (now xs) (now ys) (now levels) (now kinds)) ⌝ }
-    ensures { λ r. ⌜ checksOf r ≡ checks (triangle .fault) (elements (columns (now (xs .entry)) (now (ys .entry)) (now (levels .entry)) (now (kinds .entry)))) ⌝ }
+    ensures { λ r. ⌜ checksOf r ≡ faults (columns (now (xs .entry)) (now (ys .entry)) (now (levels .entry)) (now (kinds .entry))) ⌝ }
 {
     let mut i = 0;
     while i < xs.len() {
@@ -50,7 +47,7 @@ pub(crate) fn first_fault(xs: &[u32], ys: &[u32], levels: &[u8], kinds: &[u8]) -
 // one's parent.
 pub(crate) fn are_siblings(xs: &[u32], ys: &[u32], levels: &[u8], kinds: &[u8]) -> bool
     requires { ⌜ Checked (columns (now xs) (now ys) (now levels) (now kinds)) ⌝ }
-    ensures { λ r. ⌜ r ≡ Words.family triangle (elements (columns (now (xs .entry)) (now (ys .entry)) (now (levels .entry)) (now (kinds .entry)))) ⌝ }
+    ensures { λ r. ⌜ r ≡ siblings (columns (now (xs .entry)) (now (ys .entry)) (now (levels .entry)) (now (kinds .entry))) ⌝ }
 {
     if xs.len() != Triangle::CHILDREN as usize {
         return false;
