@@ -9,11 +9,11 @@ use native.Mathlib.Decide.{ℕ-discrete}
 use native.Mathlib.Omega.{arith}
 use lib.ListN.{length, getD}
 use borrow.Author.Tests.{eq-eqb, ne-eqb}
-use Rattle.leaves.specs.Leaves.{Leaf, leaves}
-use Rattle.leaves.specs.Laws.{nth}
-use Rattle.leaves.proofs.Listed.{at-leaves, leaves-length}
-use Rattle.adaption.specs.Adaption.{mark, merging}
-use Rattle.adaption.specs.Pass.{turn, Ready}
+use Rattle.leaves.specs.Leaves.{Leaf, nth, Columns, leafAt, leaves, room}
+use Rattle.leaves.proofs.Columns.{nth-leaves, leaves-length}
+use Rattle.marks.specs.Marks.{mark}
+use Rattle.adaption.specs.Adaption.{merging}
+use Rattle.adaption.specs.Inner.{turn, Ready}
 use Rattle.adaption.specs.Laws.{Merging}
 use Rattle.adaption.proofs.Family.{merging-is, is-merging, number-in, not-so}
 
@@ -37,53 +37,53 @@ module _ (ls ms : List ℕ) (i : ℕ) where
       one-mark s less (yes here) = ap (λ (k : ℕ). mark ms (i + k)) here ∙ two
       one-mark s less (no earlier) = so-far .marks s (omega arith)
 
-module _ (n : ℕ) (positive : 0 < n) (rs ls ps ms : List ℕ) where
-  pub level-at : (j : ℕ) → j < length rs → nth (leaves rs ls ps) j .level ≡ getD ls j 0
-  level-at j inside = ap (λ (v : Leaf). v .level) (at-leaves rs ls ps j inside)
+module _ (n : ℕ) (positive : 0 < n) (cs : Columns) (ms : List ℕ) where
+  pub level-at : (j : ℕ) → j < room cs → nth (leaves cs) j .level ≡ leafAt cs j .level
+  level-at j inside = ap (λ (v : Leaf). v .level) (nth-leaves cs j inside)
 
-  pub position-at : (j : ℕ) → j < length rs → nth (leaves rs ls ps) j .position ≡ getD ps j 0
-  position-at j inside = ap (λ (v : Leaf). v .position) (at-leaves rs ls ps j inside)
+  pub position-at : (j : ℕ) → j < room cs → nth (leaves cs) j .position ≡ leafAt cs j .position
+  position-at j inside = ap (λ (v : Leaf). v .position) (nth-leaves cs j inside)
 
-  module _ (i : ℕ) (inside : i < length rs) where
+  module _ (i : ℕ) (inside : i < room cs) where
     abbrev never : Type 0
-    never = merging n (leaves rs ls ps) ms i ≡ false
+    never = merging n (leaves cs) ms i ≡ false
 
-    by-merging : (Merging n (leaves rs ls ps) ms i → ⊥) → never
-    by-merging no-family = not-so (merging n (leaves rs ls ps) ms i) (λ m. no-family (merging-is n (leaves rs ls ps) ms i m))
+    by-merging : (Merging n (leaves cs) ms i → ⊥) → never
+    by-merging no-family = not-so (merging n (leaves cs) ms i) (λ m. no-family (merging-is n (leaves cs) ms i m))
 
-    pub none-at-root : getD ls i 0 ≡ 0 → never
+    pub none-at-root : leafAt cs i .level ≡ 0 → never
     none-at-root root = by-merging (λ m. omega (arith, m .deep, level-at i inside))
 
-    pub none-of-younger : (getD ps i 0 % n ≡ 0 → ⊥) → never
+    pub none-of-younger : (leafAt cs i .position % n ≡ 0 → ⊥) → never
     none-of-younger younger =
         by-merging (λ m. younger (ap (λ (p : ℕ). p % n) (sym (position-at i inside))
-        ∙ ap (λ (k : ℕ). nth (leaves rs ls ps) k .position % n) (sym (add-zero i)) ∙ number-in n (leaves rs ls ps) ms i 0 m positive))
+        ∙ ap (λ (k : ℕ). nth (leaves cs) k .position % n) (sym (add-zero i)) ∙ number-in n (leaves cs) ms i 0 m positive))
 
-    pub none-so-late : length rs - i < n → never
-    none-so-late late = by-merging (λ m. omega (arith, m .inside, leaves-length rs ls ps))
+    pub none-so-late : room cs - i < n → never
+    none-so-late late = by-merging (λ m. omega (arith, m .inside, leaves-length cs))
 
     pub none-unmarked : (mark ms i ≡ 2 → ⊥) → never
     none-unmarked other = by-merging (λ m. other (ap (mark ms) (sym (add-zero i)) ∙ m .carries 0 positive))
 
-    module _ (t : ℕ) (below : t < n) (room : n ≤ length rs - i) where
-      pub none-of-levels : (getD ls (i + t) 0 ≡ getD ls i 0 → ⊥) → never
+    module _ (t : ℕ) (below : t < n) (room : n ≤ room cs - i) where
+      pub none-of-levels : (leafAt cs (i + t) .level ≡ leafAt cs i .level → ⊥) → never
       none-of-levels other = by-merging (λ m. other (level m))
         where
-          level : Merging n (leaves rs ls ps) ms i → getD ls (i + t) 0 ≡ getD ls i 0
+          level : Merging n (leaves cs) ms i → leafAt cs (i + t) .level ≡ leafAt cs i .level
           level m =
-              let deep : 0 < getD ls i 0 = rw (sym (level-at i inside)) (m .deep) in
+              let deep : 0 < leafAt cs i .level = rw (sym (level-at i inside)) (m .deep) in
               sym (level-at (i + t) (omega arith)) ∙ ap (λ (v : Leaf). v .level) (m .sibling t below)
               ∙ omega (arith, deep, level-at i inside)
 
       pub none-of-marks : (mark ms (i + t) ≡ 2 → ⊥) → never
       none-of-marks other = by-merging (λ m. other (m .carries t below))
 
-    pub begins-family : Ready n (leaves rs ls ps) ms → (getD ls i 0 ≡ 0 → ⊥) → getD ps i 0 % n ≡ 0 → n ≤ length rs - i → Alike ls ms i n
-        → merging n (leaves rs ls ps) ms i ≡ true
+    pub begins-family : Ready n cs ms → (leafAt cs i .level ≡ 0 → ⊥) → leafAt cs i .position % n ≡ 0 → n ≤ room cs - i → Alike (cs .levels) ms i n
+        → merging n (leaves cs) ms i ≡ true
     begins-family ready deep first room alike =
-        let deep-at : 0 < nth (leaves rs ls ps) i .level = rw (level-at i inside) (above deep) in
-        let room-at : i + n ≤ length (leaves rs ls ps) = omega (arith, leaves-length rs ls ps) in
-        is-merging n (leaves rs ls ps) ms i (record {
+        let deep-at : 0 < nth (leaves cs) i .level = rw (level-at i inside) (above deep) in
+        let room-at : i + n ≤ length (leaves cs) = omega (arith, leaves-length cs) in
+        is-merging n (leaves cs) ms i (record {
           deep = deep-at;
           inside = room-at;
           sibling = ready .siblings i room-at deep-at (ap (λ (p : ℕ). p % n) (position-at i inside) ∙ first)
@@ -95,16 +95,16 @@ module _ (n : ℕ) (positive : 0 < n) (rs ls ps ms : List ℕ) where
         above {m} none = omega arith
 
     -- ---- the turn at leaf i, as the code settles it
-    pub turn-none : (t : ℕ) → mark ms i ≡ 2 → merging n (leaves rs ls ps) ms i ≡ false → t ≡ 0 → t ≡ turn n (leaves rs ls ps) ms i
-    turn-none t two none is = is ∙ sym (simp (ne-eqb (mark ms i) 1 (λ one. omega arith), none))
+    pub turn-none : mark ms i ≡ 2 → merging n (leaves cs) ms i ≡ false → 0 ≡ turn n (leaves cs) ms i
+    turn-none two none = sym (simp (ne-eqb (mark ms i) 1 (λ one. omega arith), none))
 
-    pub turn-family : (t : ℕ) → mark ms i ≡ 2 → merging n (leaves rs ls ps) ms i ≡ true → t ≡ mark ms i → t ≡ turn n (leaves rs ls ps) ms i
-    turn-family t two some is = is ∙ two ∙ sym (simp (ne-eqb (mark ms i) 1 (λ one. omega arith), some))
+    pub turn-family : mark ms i ≡ 2 → merging n (leaves cs) ms i ≡ true → 2 ≡ turn n (leaves cs) ms i
+    turn-family two some = sym (simp (ne-eqb (mark ms i) 1 (λ one. omega arith), some))
 
-    pub turn-mark : (t : ℕ) → mark ms i ≤ 2 → (mark ms i ≡ 2 → ⊥) → t ≡ mark ms i → t ≡ turn n (leaves rs ls ps) ms i
-    turn-mark t known other is = is ∙ by (ℕ-discrete (mark ms i) 1)
+    pub turn-mark : mark ms i ≤ 2 → (mark ms i ≡ 2 → ⊥) → mark ms i ≡ turn n (leaves cs) ms i
+    turn-mark known other = by (ℕ-discrete (mark ms i) 1)
       where
-        by : Dec (mark ms i ≡ 1) → mark ms i ≡ turn n (leaves rs ls ps) ms i
+        by : Dec (mark ms i ≡ 1) → mark ms i ≡ turn n (leaves cs) ms i
         by (yes one) = one ∙ sym (simp (eq-eqb (mark ms i) 1 one))
         by (no not-one) =
             let zero-mark : mark ms i ≡ 0 = omega arith in

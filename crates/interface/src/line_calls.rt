@@ -1,8 +1,8 @@
 // The calls on lines.
+use line::Line;
 use results::CompareResult;
 use results::LineResult;
 use results::NumberResult;
-use line::Line;
 ghost use mathlib.Core.Path.{_≡_};
 ghost use Rattle.tree.specs.Calls;
 ghost use Rattle.line.specs.Elements.{line};

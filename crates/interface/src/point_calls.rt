@@ -1,6 +1,6 @@
 // The call on corner points.
-use results::PointResult;
 use corners::Root;
+use results::PointResult;
 ghost use mathlib.Core.Path.{_≡_};
 ghost use Rattle.corners.specs.CornerPoints.{cornerPoint};
 ghost use Rattle.results.specs.Results.{pointResult};

@@ -1,8 +1,8 @@
 // The calls on prisms.
+use prism::Prism;
 use results::CompareResult;
 use results::NumberResult;
 use results::PrismResult;
-use prism::Prism;
 ghost use mathlib.Core.Path.{_≡_};
 ghost use Rattle.tree.specs.Calls;
 ghost use Rattle.prism.specs.Elements.{prism};

@@ -1,7 +1,7 @@
 -- `refines_deep` meets its contract: the two tests in turn. Assumes nothing.
 use borrow.Author.Tests.{eq-eqb, ne-eqb}
-use Rattle.adaption.proofs.marks.refines_deep.Statement.{statement}
-use Rattle.adaption.proofs.marks.refines_deep.Tie as tie
+use Rattle.marks.proofs.refines_deep.Statement.{statement}
+use Rattle.marks.proofs.refines_deep.Tie as tie
 
 returns : tie.Need-returns
 returns c = simp (ne-eqb (c .before .args .mark) 1 (c .if1 .taken))

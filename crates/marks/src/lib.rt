@@ -1,19 +1,24 @@
-// The marks of a list: 13 above 2, 7 for refining a leaf of the highest level.
+// The marks of a list, one a leaf: 0 keep, 1 refine, 2 merge.
 use paper::Fault;
 ghost use mathlib.Core.Path.{_≡_};
 ghost use mathlib.Core.Bool.{_&&_};
 ghost use lib.Dec.{leb, ltb, eqb};
 ghost use lib.ListN.{length};
-ghost use Rattle.paper.specs.Outcome.{checks, passed, fault-when};
+ghost use Rattle.paper.specs.Outcome.{checks, fault-when};
 ghost use Rattle.paper.specs.Readings.{checksOf};
-ghost use Rattle.adaption.specs.Calls.{markFault, depthFault, numbers, marked};
-ghost use Rattle.adaption.specs.Pass.{Faultless};
+ghost use Rattle.marks.specs.Marks.{markFault, depthFault, numbers, checkMarks};
+ghost use Rattle.marks.specs.Inner.{Faultless};
 
-// The first fault of the marks: 13 at any leaf, then 7.
-pub(crate) fn fault(highest: u8, levels: &[u8], marks: &[u8]) -> Fault
-    requires { ⌜ length (now levels) ≡ length (now marks) ⌝ }
-    ensures { λ r. ⌜ checksOf r ≡ marked highest (now (levels .entry)) (now (marks .entry)) passed ⌝ }
+// The first fault of the marks: 11 where there are not as many as levels, 13 at any leaf, then 7.
+pub fn check(highest: u8, levels: &[u8], marks: &[u8]) -> Fault
+    ensures { λ r. ⌜ checksOf r ≡ checkMarks highest (now (levels .entry)) (now (marks .entry)) ⌝ }
 {
+    if levels.len() != marks.len() {
+        return Fault {
+            number: 11,
+            place: 0,
+        };
+    }
     if worst(highest, levels, marks) == 0 {
         return Fault {
             number: 0,
@@ -87,7 +92,8 @@ fn above_two(marks: &[u8]) -> Fault
 // The first mark 1 on a leaf of the highest level.
 fn too_deep(highest: u8, levels: &[u8], marks: &[u8]) -> Fault
     requires { ⌜ length (now levels) ≡ length (now marks) ⌝ }
-    ensures { λ r. ⌜ checksOf r ≡ checks (depthFault highest (now (levels .entry)) (now (marks .entry))) (numbers (length (now (marks .entry)))) ⌝ }
+    ensures { λ r. ⌜ checksOf r ≡ checks (depthFault highest (now (levels .entry)) (now (marks .entry)))
+        (numbers (length (now (marks .entry)))) ⌝ }
 {
     let mut i = 0;
     while i < marks.len() {

@@ -4,10 +4,10 @@ use Prim.Native.Nat.{_-_, _≤_}
 use native.Mathlib.Omega.{arith}
 use lib.ListN.{length}
 use borrow.Author.Needs.{needs}
-use Rattle.adaption.specs.Pass.{Faultless}
-use Rattle.adaption.proofs.Sound.{faultless-none, faultless-more}
-use Rattle.adaption.proofs.marks.worst.Statement.{statement}
-use Rattle.adaption.proofs.marks.worst.Tie as tie
+use Rattle.marks.specs.Inner.{Faultless}
+use Rattle.marks.proofs.Sound.{faultless-none, faultless-more}
+use Rattle.marks.proofs.worst.Statement.{statement}
+use Rattle.marks.proofs.worst.Tie as tie
 
 abbrev Inv-loop : tie.InvT-loop
 Inv-loop highest levels marks most₀ i₀ most i = (i ≤ length marks) × Faultless highest levels marks i most
@@ -16,7 +16,9 @@ abbrev μ-loop : tie.MeasureT-loop
 μ-loop highest levels marks most₀ i₀ most i = length marks - i
 
 loop-holds : tie.Need-loop-holds Inv-loop μ-loop
-loop-holds c = (omega arith, faultless-none (c .before .before .args .highest) (c .before .before .args .levels .now) (c .before .before .args .marks .now))
+loop-holds c =
+    let a = c .before .before .args in
+    (omega arith, faultless-none (a .highest) (a .levels .now) (a .marks .now))
 
 shared-slice-read-either : tie.Need-shared-slice-read-either Inv-loop μ-loop
 shared-slice-read-either c = omega (arith, (c .before .before .before .before .before .pre))
@@ -37,7 +39,9 @@ loop-less : tie.Need-loop-less Inv-loop μ-loop
 loop-less c = omega arith
 
 loop-again : tie.Need-loop-again Inv-loop μ-loop
-loop-again c = (omega arith, faultless-more (c .before .before .before .before .before .before .before .before .args .highest) (c .before .before .before .before .before .before .before .before .args .levels .now) (c .before .before .before .before .before .before .before .before .args .marks .now) (c .before .before .before .before .before .loop .i) (c .before .before .before .before .before .loop .most) (c .before .either .result) (c .worse .result) (c .before .before .before .before .before .loop .inv .1) (c .before .either .ensures) (c .worse .ensures))
+loop-again c =
+    let a = c .before .before .before .before .before .before .before .before .args in
+    (omega arith, faultless-more (a .highest) (a .levels .now) (a .marks .now) (c .before .before .before .before .before .loop .i) (c .before .before .before .before .before .loop .most) (c .before .either .result) (c .worse .result) (c .before .before .before .before .before .loop .inv .1) (c .before .either .ensures) (c .worse .ensures))
 
 returns : tie.Need-returns Inv-loop μ-loop
 returns c =

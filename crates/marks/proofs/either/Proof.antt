@@ -3,8 +3,8 @@ use mathlib.Core.Path.{sym}
 use native.Mathlib.Omega.{arith}
 use borrow.Author.Needs.{needs}
 use borrow.Author.Tests.{le-ltb}
-use Rattle.adaption.proofs.marks.either.Statement.{statement}
-use Rattle.adaption.proofs.marks.either.Tie as tie
+use Rattle.marks.proofs.either.Statement.{statement}
+use Rattle.marks.proofs.either.Tie as tie
 
 returns : tie.Need-returns
 returns c none = absurd (omega arith)

@@ -5,11 +5,10 @@ use Prim.Native.Nat.{ℕ, zero, suc, _+_, _-_, _≤_, _<_}
 use native.Mathlib.Nat.{sub-zero}
 use native.Mathlib.Decide.{ℕ-discrete}
 use native.Mathlib.Omega.{arith}
-use lib.ListN.{length}
 use Rattle.paper.specs.Outcome.{refused, passed, checks, scan, rows}
-use Rattle.paper.proofs.Scan.{scan-step, scan-found, scan-passed, fault-none, rows-done}
-use Rattle.adaption.specs.Calls.{markFault, depthFault, numbers, marked}
-use Rattle.adaption.specs.Pass.{Faultless}
+use Rattle.paper.proofs.Scan.{scan-step, scan-found, fault-none, rows-done}
+use Rattle.marks.specs.Marks.{markFault, depthFault, numbers}
+use Rattle.marks.specs.Inner.{Faultless}
 
 module _ (fault : ℕ → ℕ) (m : ℕ) where
   -- the leaves before number i are without fault
@@ -47,8 +46,3 @@ pub all-sound : (fault : ℕ → ℕ) (m i k : ℕ) → i + k ≡ m → ((j : �
 all-sound fault m i zero e none = refl
 all-sound fault m i (suc k) e none =
     fault-none (fault i) i (scan fault (suc i) (rows (λ j. j) (suc i) k) passed) (none i (omega arith)) ∙ all-sound fault m (suc i) k (omega arith) none
-
-pub faultless-marks : (L : ℕ) (ls ms : List ℕ) → Faultless L ls ms (length ms) 0 → passed ≡ marked L ls ms passed
-faultless-marks L ls ms faultless =
-    sym (scan-passed (markFault ms) 0 (numbers (length ms)) _ (all-sound (markFault ms) (length ms) 0 (length ms) (omega arith) (λ j before. faultless refl j before .0))
-    ∙ all-sound (depthFault L ls ms) (length ms) 0 (length ms) (omega arith) (λ j before. faultless refl j before .1))
