@@ -16,9 +16,12 @@ print-requires c κs = search needs
 
 returns : tie.Need-returns
 returns c =
-    let sized = c .before .before .print in
-    let asked = c .before .before .before .before .read in
-    let a = c .before .before .before .before .before .before .before .args in
+    let at-print = c .before .before in
+    let at-read = at-print .before .before in
+    let start = at-read .before .before .before in
+    let sized = at-print .print in
+    let asked = at-read .read in
+    let a = start .args in
     not-answered (a .input .now) (a .out .now) (formOf (asked .result)) (asked .ensures) (sized .result) (sized .ensures .end) (c .if1 .taken)
 
 print-requires-2 : tie.Need-print-requires-2
@@ -29,11 +32,16 @@ same-length c = search needs
 
 returns-2 : tie.Need-returns-2
 returns-2 c =
-    let put = c .before .before .print2 in
-    let sized = c .before .before .before .before .before .before .print in
-    let asked = c .before .before .before .before .before .before .before .before .read in
-    let a = c .before .before .before .before .before .before .before .before .before .before .before .args in
-    answered (a .input .now) (a .out .now) (formOf (asked .result)) (asked .ensures) (sized .result) (sized .ensures .end) _ (put .result) (c .before .before .before .before .if1 .left) (put .ensures)
+    let at-print2 = c .before .before in
+    let at-if1 = at-print2 .before .before in
+    let at-print = at-if1 .before .before in
+    let at-read = at-print .before .before in
+    let start = at-read .before .before .before in
+    let put = at-print2 .print2 in
+    let sized = at-print .print in
+    let asked = at-read .read in
+    let a = start .args in
+    answered (a .input .now) (a .out .now) (formOf (asked .result)) (asked .ensures) (sized .result) (sized .ensures .end) _ (put .result) (at-if1 .if1 .left) (put .ensures)
 
 pub answer-spec : {M : Type 1} → statement M
 answer-spec =

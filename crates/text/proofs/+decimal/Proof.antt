@@ -68,7 +68,12 @@ decimal-returns : (t : ℕ) → decimal-lts.Need-returns (
   decimal-below t,
   decimal.Post,
 ) (decimal-at t) decimal.Post
-decimal-returns t c = put-digit (c .before .before .before .before .before .before .args .n) (c .before .before .before .before .before .before .args .at) (c .before .before .before .before .before .before .args .out .now) _ (c .before .before .before .before .if1 .taken) (c .before .before .put .ensures)
+decimal-returns t c =
+    let at-put = c .before .before in
+    let at-if1 = at-put .before .before in
+    let start = at-if1 .before .before in
+    let a = start .args in
+    put-digit (a .n) (a .at) (a .out .now) _ (at-if1 .if1 .taken) (at-put .put .ensures)
 
 decimal-decimal-requires : (t : ℕ) → decimal-lts.Need-decimal-requires (
   put-reads.Asked,
@@ -76,7 +81,9 @@ decimal-decimal-requires : (t : ℕ) → decimal-lts.Need-decimal-requires (
   decimal-below t,
   decimal.Post,
 ) (decimal-at t) decimal.Post
-decimal-decimal-requires t c κs = (subst (λ (j : ℕ). (c .before .before .before .args .n) / 10 < j) (c .before .before .before .pre .0) (div-lt-self (omega (arith, c .before .if1 .left)) (omega arith)), c .before .before .before .pre .1)
+decimal-decimal-requires t c κs =
+    let start = c .before .before .before in
+    (subst (λ (j : ℕ). (start .args .n) / 10 < j) (start .pre .0) (div-lt-self (omega (arith, c .before .if1 .left)) (omega arith)), start .pre .1)
 
 decimal-cast-put-2 : (t : ℕ) → decimal-lts.Need-cast-put-2 (
   put-reads.Asked,
@@ -108,7 +115,10 @@ decimal-add-result-2 : (t : ℕ) → decimal-lts.Need-add-result-2 (
   decimal-below t,
   decimal.Post,
 ) (decimal-at t) decimal.Post
-decimal-add-result-2 t c = omega (arith, c .before .before .before .before .before .before .before .before .before .before .pre .1, c .before .before .before .before .before .before .decimal .ensures .end, decimal-20 ((c .before .before .before .before .before .before .before .before .before .before .args .n) / 10))
+decimal-add-result-2 t c =
+    let at-decimal = c .before .before .before .before .before .before in
+    let start = at-decimal .before .before .before .before in
+    omega (arith, start .pre .1, at-decimal .decimal .ensures .end, decimal-20 ((start .args .n) / 10))
 
 decimal-same-length-2 : (t : ℕ) → decimal-lts.Need-same-length-2 (
   put-reads.Asked,
@@ -116,7 +126,10 @@ decimal-same-length-2 : (t : ℕ) → decimal-lts.Need-same-length-2 (
   decimal-below t,
   decimal.Post,
 ) (decimal-at t) decimal.Post
-decimal-same-length-2 t c = c .before .before .put2 .kept .0 ∙ c .before .before .before .before .before .before .decimal .kept .0
+decimal-same-length-2 t c =
+    let at-put2 = c .before .before in
+    let at-decimal = at-put2 .before .before .before .before in
+    at-put2 .put2 .kept .0 ∙ at-decimal .decimal .kept .0
 
 decimal-returns-2 : (t : ℕ) → decimal-lts.Need-returns-2 (
   put-reads.Asked,
@@ -124,7 +137,13 @@ decimal-returns-2 : (t : ℕ) → decimal-lts.Need-returns-2 (
   decimal-below t,
   decimal.Post,
 ) (decimal-at t) decimal.Post
-decimal-returns-2 t c = put-last (c .before .before .before .before .before .before .before .before .before .before .args .n) (c .before .before .before .before .before .before .before .before .before .before .args .at) (c .before .before .before .before .before .before .before .before .before .before .args .out .now) _ _ (c .before .before .before .before .before .before .decimal .result) (c .before .before .before .before .before .before .before .before .if1 .left) (omega (arith, c .before .before .before .before .before .before .before .before .before .before .fits .n)) (c .before .before .before .before .before .before .decimal .ensures) (c .before .before .put2 .ensures)
+decimal-returns-2 t c =
+    let at-put2 = c .before .before in
+    let at-decimal = at-put2 .before .before .before .before in
+    let at-if1 = at-decimal .before .before in
+    let start = at-if1 .before .before in
+    let a = start .args in
+    put-last (a .n) (a .at) (a .out .now) _ _ (at-decimal .decimal .result) (at-if1 .if1 .left) (omega (arith, start .fits .n)) (at-decimal .decimal .ensures) (at-put2 .put2 .ensures)
 
 pub +decimal-spec : {M : Type 1} → statement M
 +decimal-spec = close μ-decimal λ t. decimal-lts.spec (
