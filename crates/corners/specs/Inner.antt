@@ -1,4 +1,4 @@
--- The steps of the call: what its own functions ask and answer. Definitions only.
+-- Inner contracts: what the code's own functions ask and answer. A reader of the promises may skip this file.
 --
 --   Axis            one coordinate of a root's six corners; along a j is its vj; xs, ys, zs are a root's three
 --   Local           local (X, Y, Z); localOf and cornerOf go from the prism's corner to it and back
@@ -52,10 +52,10 @@ ys r = record { v0 = r .v0 .y; v1 = r .v1 .y; v2 = r .v2 .y; v3 = r .v3 .y; v4 =
 abbrev pub zs : Root → Axis
 zs r = record { v0 = r .v0 .z; v1 = r .v1 .z; v2 = r .v2 .z; v3 = r .v3 .z; v4 = r .v4 .z; v5 = r .v5 .z }
 
--- corner k of a triangle of type t lies s % 2 sides along x and s / 2 along y from the anchor
+-- corner k of a triangle of type t lies s / 2 sides along x and s % 2 along y from the anchor
 pub record CornerRow (t k s : ℕ) : Type 0 where
   pub narrow : s ≤ 3
-  pub placed : (h x y : ℕ) → getD (cornersBy t h x y) k (point 0 0) ≡ point (x + s % 2 * h) (y + s / 2 * h)
+  pub placed : (h x y : ℕ) → getD (cornersBy t h x y) k (point 0 0) ≡ point (x + s / 2 * h) (y + s % 2 * h)
 
 abbrev pub localOf : prisms.Corner → Local
 localOf c = record { x = c .plan .x; y = c .plan .y; z = c .height }
