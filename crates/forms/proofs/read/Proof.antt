@@ -1,8 +1,7 @@
 -- `read` meets its contract: before each field, those to the left are without fault and their numbers are kept. Assumes nothing.
-use mathlib.Core.Path.{refl, subst, sym, _∙_}
-use Prim.Native.Nat.{ℕ, _+_, _-_}
+use mathlib.Core.Path.{refl, sym, _∙_}
+use Prim.Native.Nat.{_-_}
 use native.Mathlib.Omega.{arith}
-use lib.ListN.{set}
 use borrow.Author.Needs.{needs}
 use borrow.Author.Tests.{not-true, not-false}
 use Rattle.forms.proofs.Deciding.{Reading, reading-start, reading-refused, reading-step}
@@ -32,10 +31,8 @@ returns : tie.Need-returns Inv-loop μ-loop
 returns c =
     let at-take = c .before .before in
     let at-loop-test = at-take .before in
-    let at-loop = at-loop-test .before in
-    let start = at-loop .before .before in
-    let l = at-loop .loop in
-    reading-refused (start .args .input .now) (l .v) (l .at) (l .end) (l .i) (l .inv) (at-loop-test .loop-test .taken) (at-take .take .result) (at-take .take .ensures) (c .if1 .taken)
+    let l = at-loop-test .before .loop in
+    reading-refused (l .inv) (at-loop-test .loop-test .taken) (at-take .take .ensures) (c .if1 .taken)
 
 mul-v : tie.Need-mul-v Inv-loop μ-loop
 mul-v c = omega arith
@@ -57,10 +54,9 @@ loop-again c =
     let at-take = c .before .before .before in
     let at-loop-test = at-take .before in
     let at-loop = at-loop-test .before in
-    let start = at-loop .before .before in
-    let a = start .args in
+    let a = at-loop .before .before .args in
     let l = at-loop .loop in
-    subst (λ (next : ℕ). Reading (a .input .now) (set (l .v) (l .i) (at-take .take .result .number)) next (at-take .take .result .end) ((l .i) + 1)) (sym (c .after .ensures)) (reading-step (a .input .now) (l .v) (l .at) (l .end) (l .i) (l .inv) (at-loop-test .loop-test .taken) (at-take .take .result) (at-take .take .ensures) (c .before .if1 .left))
+    rw (c .after .ensures) (reading-step (l .inv) (at-loop-test .loop-test .taken) (at-take .take .ensures) (c .before .if1 .left))
 
 closing-requires : tie.Need-closing-requires Inv-loop μ-loop
 closing-requires c κs = search needs
@@ -68,10 +64,8 @@ closing-requires c κs = search needs
 returns-2 : tie.Need-returns-2 Inv-loop μ-loop
 returns-2 c =
     let at-loop-test = c .before .before in
-    let at-loop = at-loop-test .before in
-    let start = at-loop .before .before in
-    let l = at-loop .loop in
-    reading-open (start .args .input .now) (l .v) (l .at) (l .end) (l .i) (l .inv) (at-loop-test .loop-test .left) (sym (c .before .closing .ensures) ∙ not-true (c .before .closing .result) (c .if2 .taken))
+    let l = at-loop-test .before .loop in
+    reading-open (l .inv) (at-loop-test .loop-test .left) (sym (c .before .closing .ensures) ∙ not-true (c .before .closing .result) (c .if2 .taken))
 
 array-read-t22 : tie.Need-array-read-t22 Inv-loop μ-loop
 array-read-t22 c = omega (arith, (c .before .before .before .loop .inv .long))
@@ -97,26 +91,20 @@ array-read-t40 c = omega (arith, (c .before .before .before .loop .inv .long))
 mul-t41 : tie.Need-mul-t41 Inv-loop μ-loop
 mul-t41 c =
     let at-loop-test = c .before .before in
-    let at-loop = at-loop-test .before in
-    let start = at-loop .before .before in
-    let l = at-loop .loop in
-    omega (arith, level-small (start .args .input .now) (l .v) (l .at) (l .end) (l .i) (l .inv) (at-loop-test .loop-test .left))
+    let l = at-loop-test .before .loop in
+    omega (arith, level-small (l .inv) (at-loop-test .loop-test .left))
 
 shl-t42 : tie.Need-shl-t42 Inv-loop μ-loop
 shl-t42 c =
     let at-loop-test = c .before .before in
-    let at-loop = at-loop-test .before in
-    let start = at-loop .before .before in
-    let l = at-loop .loop in
-    omega (arith, level-small (start .args .input .now) (l .v) (l .at) (l .end) (l .i) (l .inv) (at-loop-test .loop-test .left))
+    let l = at-loop-test .before .loop in
+    omega (arith, level-small (l .inv) (at-loop-test .loop-test .left))
 
 cast-t43 : tie.Need-cast-t43 Inv-loop μ-loop
 cast-t43 c =
     let at-loop-test = c .before .before in
-    let at-loop = at-loop-test .before in
-    let start = at-loop .before .before in
-    let l = at-loop .loop in
-    omega (arith, leaves-small (start .args .input .now) (l .v) (l .at) (l .end) (l .i) (l .inv) (at-loop-test .loop-test .left))
+    let l = at-loop-test .before .loop in
+    omega (arith, leaves-small (l .inv) (at-loop-test .loop-test .left))
 
 array-read-t46 : tie.Need-array-read-t46 Inv-loop μ-loop
 array-read-t46 c = omega (arith, (c .before .before .before .loop .inv .long))
@@ -124,18 +112,14 @@ array-read-t46 c = omega (arith, (c .before .before .before .loop .inv .long))
 cast-t47 : tie.Need-cast-t47 Inv-loop μ-loop
 cast-t47 c =
     let at-loop-test = c .before .before in
-    let at-loop = at-loop-test .before in
-    let start = at-loop .before .before in
-    let l = at-loop .loop in
-    omega (arith, shares-small (start .args .input .now) (l .v) (l .at) (l .end) (l .i) (l .inv) (at-loop-test .loop-test .left))
+    let l = at-loop-test .before .loop in
+    omega (arith, shares-small (l .inv) (at-loop-test .loop-test .left))
 
 returns-3 : tie.Need-returns-3 Inv-loop μ-loop
 returns-3 c =
     let at-loop-test = c .before .before in
-    let at-loop = at-loop-test .before in
-    let start = at-loop .before .before in
-    let l = at-loop .loop in
-    reading-form (start .args .input .now) (l .v) (l .at) (l .end) (l .i) (l .inv) (at-loop-test .loop-test .left) (sym (c .before .closing .ensures) ∙ not-false (c .before .closing .result) (c .if2 .left))
+    let l = at-loop-test .before .loop in
+    reading-form (l .inv) (at-loop-test .loop-test .left) (sym (c .before .closing .ensures) ∙ not-false (c .before .closing .result) (c .if2 .left))
 
 pub read-spec : {M : Type 1} → statement M
 read-spec =

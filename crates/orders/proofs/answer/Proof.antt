@@ -18,10 +18,9 @@ returns : tie.Need-returns
 returns c =
     let at-print = c .before .before in
     let at-read = at-print .before .before in
-    let start = at-read .before .before .before in
     let sized = at-print .print in
     let asked = at-read .read in
-    let a = start .args in
+    let a = at-read .before .before .before .args in
     not-answered (a .input .now) (a .out .now) (formOf (asked .result)) (asked .ensures) (sized .result) (sized .ensures .end) (c .if1 .taken)
 
 print-requires-2 : tie.Need-print-requires-2
@@ -36,11 +35,10 @@ returns-2 c =
     let at-if1 = at-print2 .before .before in
     let at-print = at-if1 .before .before in
     let at-read = at-print .before .before in
-    let start = at-read .before .before .before in
     let put = at-print2 .print2 in
     let sized = at-print .print in
     let asked = at-read .read in
-    let a = start .args in
+    let a = at-read .before .before .before .args in
     answered (a .input .now) (a .out .now) (formOf (asked .result)) (asked .ensures) (sized .result) (sized .ensures .end) _ (put .result) (at-if1 .if1 .left) (put .ensures)
 
 pub answer-spec : {M : Type 1} → statement M

@@ -71,8 +71,7 @@ decimal-returns : (t : ℕ) → decimal-lts.Need-returns (
 decimal-returns t c =
     let at-put = c .before .before in
     let at-if1 = at-put .before .before in
-    let start = at-if1 .before .before in
-    let a = start .args in
+    let a = at-if1 .before .before .args in
     put-digit (a .n) (a .at) (a .out .now) _ (at-if1 .if1 .taken) (at-put .put .ensures)
 
 decimal-decimal-requires : (t : ℕ) → decimal-lts.Need-decimal-requires (
@@ -128,8 +127,7 @@ decimal-same-length-2 : (t : ℕ) → decimal-lts.Need-same-length-2 (
 ) (decimal-at t) decimal.Post
 decimal-same-length-2 t c =
     let at-put2 = c .before .before in
-    let at-decimal = at-put2 .before .before .before .before in
-    at-put2 .put2 .kept .0 ∙ at-decimal .decimal .kept .0
+    at-put2 .put2 .kept .0 ∙ at-put2 .before .before .before .before .decimal .kept .0
 
 decimal-returns-2 : (t : ℕ) → decimal-lts.Need-returns-2 (
   put-reads.Asked,

@@ -17,8 +17,7 @@ same-length c = search needs
 returns : tie.Need-returns
 returns c =
     let at-number = c .before .before in
-    let at-word = at-number .before .before .before .before in
-    (put-then (at-word .word .ensures) (at-number .number .ensures .0), omega arith)
+    (put-then (at-number .before .before .before .before .word .ensures) (at-number .number .ensures .0), omega arith)
 
 pub entry-spec : {M : Type 1} → statement M
 entry-spec = tie.close (tie.spec word-requires number-requires same-length returns)

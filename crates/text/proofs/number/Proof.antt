@@ -15,8 +15,7 @@ put-requires c κs = search needs
 add-result : tie.Need-add-result
 add-result c =
     let at-decimal = c .before .before .before .before .before .before in
-    let start = at-decimal .before .before .before in
-    omega (arith, (at-decimal .decimal .ensures .end), decimal-20 (start .args .n))
+    omega (arith, (at-decimal .decimal .ensures .end), decimal-20 (at-decimal .before .before .before .args .n))
 
 same-length : tie.Need-same-length
 same-length c = search needs
@@ -25,8 +24,7 @@ returns : tie.Need-returns
 returns c =
     let at-put = c .before .before in
     let at-decimal = at-put .before .before .before .before in
-    let start = at-decimal .before .before .before in
-    let a = start .args in
+    let a = at-decimal .before .before .before .args in
     let put = put-then (at-decimal .decimal .ensures) (put-byte (at-decimal .decimal .result) (a .after) _ _ (at-put .put .ensures)) in
     (put, omega (arith, put .end, counted-few (a .n) (a .after)))
 

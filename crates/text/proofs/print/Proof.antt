@@ -32,8 +32,7 @@ returns c =
     let at-share-lines = c .before .before in
     let at-first-line = at-share-lines .before .before .before .before in
     let at-asked = at-first-line .before .before .before in
-    let start = at-asked .before .before .before in
-    subst⁻¹ (λ (o : Outcome Form). Put (spelled o) 0 (start .args .out .now) (at-share-lines .share-lines .last .0) (at-share-lines .share-lines .result)) (ap formOf (at-asked .asked .given .1))
+    subst⁻¹ (λ (o : Outcome Form). Put (spelled o) 0 (at-asked .before .before .before .args .out .now) (at-share-lines .share-lines .last .0) (at-share-lines .share-lines .result)) (ap formOf (at-asked .asked .given .1))
     (put-then (at-first-line .first-line .ensures .0) (at-share-lines .share-lines .ensures))
 
 same-length-2 : tie.Need-same-length-2
@@ -43,8 +42,7 @@ returns-2 : tie.Need-returns-2
 returns-2 c =
     let at-refusal = c .before .before in
     let at-asked2 = at-refusal .before .before .before in
-    let start = at-asked2 .before .before .before in
-    subst⁻¹ (λ (o : Outcome Form). Put (spelled o) 0 (start .args .out .now) (at-refusal .refusal .last .0) (at-refusal .refusal .result)) (ap formOf (at-asked2 .asked2 .given .1)) (at-refusal .refusal .ensures)
+    subst⁻¹ (λ (o : Outcome Form). Put (spelled o) 0 (at-asked2 .before .before .before .args .out .now) (at-refusal .refusal .last .0) (at-refusal .refusal .result)) (ap formOf (at-asked2 .asked2 .given .1)) (at-refusal .refusal .ensures)
 
 pub print-spec : {M : Type 1} → statement M
 print-spec =

@@ -21,8 +21,7 @@ add-to c = omega arith
 
 mul-to : tie.Need-mul-to Inv-loop μ-loop
 mul-to c =
-    let start = c .before .before .before in
-    let a = start .args in
+    let a = c .before .before .before .args in
     omega (arith, product-small (a .n) (a .p) (c .before .loop .s) (omega arith) (omega arith) (omega arith))
 
 div-to : tie.Need-div-to Inv-loop μ-loop
@@ -31,8 +30,7 @@ div-to c = omega arith
 share-line-requires : tie.Need-share-line-requires Inv-loop μ-loop
 share-line-requires c κs =
     let at-loop = c .before .before in
-    let start = at-loop .before .before in
-    let a = start .args in
+    let a = at-loop .before .before .args in
     let l = at-loop .loop in
     (subst⁻¹ (λ (x : ℕ). x ≤ ((l .s) + 1) * (a .n) / (a .p)) (l .inv .2) (first-rises (a .n) (a .p) (l .s) (omega arith)), omega arith)
 
@@ -46,8 +44,7 @@ loop-again : tie.Need-loop-again Inv-loop μ-loop
 loop-again c =
     let at-share-line = c .before .before in
     let at-loop = at-share-line .before .before .before in
-    let start = at-loop .before .before in
-    let a = start .args in
+    let a = at-loop .before .before .args in
     let l = at-loop .loop in
     (omega arith, omega arith, refl, listed-more (a .n) (a .p) (a .at) (a .out .now) (l .s) (l .from) (l .end) _ _ _ (l .inv .2) (l .inv .3) (at-share-line .share-line .ensures .0))
 
@@ -56,8 +53,7 @@ same-length c = put-length ((c .before .loop .inv .3))
 
 returns : tie.Need-returns Inv-loop μ-loop
 returns c =
-    let start = c .before .before .before in
-    let a = start .args in
+    let a = c .before .before .before .args in
     listed-done (a .n) (a .p) (a .at) (a .out .now) (c .before .loop .s) (c .before .loop .end) (c .before .loop .out) (omega arith) (c .before .loop .inv .3)
 
 pub share-lines-spec : {M : Type 1} → statement M

@@ -36,8 +36,7 @@ loop-again : tie.Need-loop-again Inv-loop μ-loop
 loop-again c =
     let at-put = c .before .before in
     let at-loop = at-put .before .before .before .before in
-    let start = at-loop .before .before .before in
-    let a = start .args in
+    let a = at-loop .before .before .before .args in
     let l = at-loop .loop in
     (omega arith, word-more (a .out .now) (a .text .now) (a .at) (l .out) _ (l .i) (omega arith) (l .inv .1) (at-put .put .ensures))
 
@@ -46,14 +45,12 @@ add-result c = omega arith
 
 same-length : tie.Need-same-length Inv-loop μ-loop
 same-length c =
-    let start = c .before .before .before .before in
-    let a = start .args in
+    let a = c .before .before .before .before .args in
     ap length (c .before .loop .inv .1) ∙ length-sets (a .out .now) (a .at) (take (c .before .loop .i) (a .text .now))
 
 returns : tie.Need-returns Inv-loop μ-loop
 returns c =
-    let start = c .before .before .before .before in
-    let a = start .args in
+    let a = c .before .before .before .before .args in
     word-done (a .out .now) (a .text .now) (a .at) (c .before .loop .out) (c .before .loop .i) (omega arith) (omega arith) (c .before .loop .inv .1)
 
 pub word-spec : {M : Type 1} → statement M

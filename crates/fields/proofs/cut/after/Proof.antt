@@ -19,8 +19,7 @@ add-result-2 c = search needs
 
 returns-2 : tie.Need-returns-2
 returns-2 c =
-    let start = c .before .before .before in
-    let a = start .args in
+    let a = c .before .before .before .args in
     sym (next-field (a .input .now) (a .end) (c .if2 .taken))
 
 add-result-3 : tie.Need-add-result-3
@@ -28,8 +27,7 @@ add-result-3 c = search needs
 
 returns-3 : tie.Need-returns-3
 returns-3 c =
-    let start = c .before .before .before in
-    let a = start .args in
+    let a = c .before .before .before .args in
     sym (next-other (a .input .now) (a .end) (c .if2 .left))
 
 pub after-spec : {M : Type 1} → statement M

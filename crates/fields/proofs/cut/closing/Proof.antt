@@ -20,8 +20,7 @@ shared-slice-read-result c = search needs
 
 returns-3 : tie.Need-returns-3
 returns-3 c =
-    let start = c .before .before .before in
-    let a = start .args in
+    let a = c .before .before .before .args in
     sym (closes-last (a .input .now) (a .end) (omega (arith, c .before .if2 .left)))
 
 pub closing-spec : {M : Type 1} → statement M

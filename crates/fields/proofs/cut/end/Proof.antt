@@ -24,8 +24,7 @@ shared-slice-read-if1 c = omega arith
 returns : tie.Need-returns Inv-loop μ-loop
 returns c =
     let at-loop = c .before .before .before in
-    let start = at-loop .before in
-    omega (arith, end-lf (start .args .input .now) (at-loop .loop .i) (omega arith) (c .if1 .taken))
+    omega (arith, end-lf (at-loop .before .args .input .now) (at-loop .loop .i) (omega arith) (c .if1 .taken))
 
 shared-slice-read-if2 : tie.Need-shared-slice-read-if2 Inv-loop μ-loop
 shared-slice-read-if2 c = omega arith
@@ -34,8 +33,7 @@ returns-2 : tie.Need-returns-2 Inv-loop μ-loop
 returns-2 c =
     let at-if1 = c .before .before in
     let at-loop = at-if1 .before .before .before in
-    let start = at-loop .before in
-    omega (arith, end-semicolon (start .args .input .now) (at-loop .loop .i) (omega arith) (at-if1 .if1 .left) (c .if2 .taken))
+    omega (arith, end-semicolon (at-loop .before .args .input .now) (at-loop .loop .i) (omega arith) (at-if1 .if1 .left) (c .if2 .taken))
 
 add-i : tie.Need-add-i Inv-loop μ-loop
 add-i c = omega arith
@@ -47,8 +45,7 @@ loop-again : tie.Need-loop-again Inv-loop μ-loop
 loop-again c =
     let at-if1 = c .before .before in
     let at-loop = at-if1 .before .before .before in
-    let start = at-loop .before in
-    omega (arith, end-more (start .args .input .now) (at-loop .loop .i) (omega arith) (at-if1 .if1 .left) (c .if2 .left))
+    omega (arith, end-more (at-loop .before .args .input .now) (at-loop .loop .i) (omega arith) (at-if1 .if1 .left) (c .if2 .left))
 
 returns-3 : tie.Need-returns-3 Inv-loop μ-loop
 returns-3 c = omega (arith, end-none (c .before .before .args .input .now) (c .before .loop .i) (omega arith))

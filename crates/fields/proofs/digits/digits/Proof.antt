@@ -25,16 +25,14 @@ cast-b c = omega (arith, (c .shared-slice-known .given) (c .before .before .loop
 returns : tie.Need-returns Inv-loop μ-loop
 returns c =
     let at-loop = c .before .before .before in
-    let start = at-loop .before in
-    let a = start .args in
+    let a = at-loop .before .args in
     let l = at-loop .loop in
     digits-refused (a .f .now) (digits-low (a .f .now) (l .n) (l .i) (l .inv .2) (omega arith) (omega (arith, c .if1 .taken)))
 
 returns-2 : tie.Need-returns-2 Inv-loop μ-loop
 returns-2 c =
     let at-loop = c .before .before .before .before in
-    let start = at-loop .before in
-    let a = start .args in
+    let a = at-loop .before .args in
     let l = at-loop .loop in
     digits-refused (a .f .now) (digits-high (a .f .now) (l .n) (l .i) (l .inv .2) (omega arith) (omega (arith, c .if2 .taken)) (omega (arith, c .if2 .taken)))
 
@@ -53,8 +51,7 @@ loop-less c = omega arith
 loop-again : tie.Need-loop-again Inv-loop μ-loop
 loop-again c =
     let at-loop = c .before .before .before .before in
-    let start = at-loop .before in
-    let a = start .args in
+    let a = at-loop .before .args in
     let l = at-loop .loop in
     (omega arith, digit-below (l .n) (l .i) (getD (a .f .now) (l .i) 0 - 48) (l .inv .1) (omega arith), digits-more (a .f .now) (l .n) (l .i) (l .inv .2) (omega arith) (omega (arith, c .before .if1 .left)) (omega (arith, c .if2 .left)))
 

@@ -1,4 +1,4 @@
--- `number` meets its contract: each way out is one case of the field's form. Assumes nothing.
+-- `number` meets its contract: each way out is one case of what a number is. Assumes nothing.
 use mathlib.Core.Path.{sym, _∙_}
 use native.Mathlib.Omega.{arith}
 use borrow.Author.Needs.{needs}
@@ -26,8 +26,7 @@ returns-4 c =
     let at-leading-zero = c .before .before in
     let at-if2 = at-leading-zero .before in
     let at-if1 = at-if2 .before in
-    let start = at-if1 .before .before in
-    (c .digits .ensures) ∙ number-digits (start .args .f .now) (sym (at-leading-zero .leading-zero .ensures) ∙ (c .before .if3 .left)) (at-if1 .if1 .left) (omega (arith, at-if2 .if2 .left))
+    (c .digits .ensures) ∙ number-digits (at-if1 .before .before .args .f .now) (sym (at-leading-zero .leading-zero .ensures) ∙ (c .before .if3 .left)) (at-if1 .if1 .left) (omega (arith, at-if2 .if2 .left))
 
 pub number-spec : {M : Type 1} → statement M
 number-spec =

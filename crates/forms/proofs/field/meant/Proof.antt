@@ -12,8 +12,7 @@ number-requires c κs = search needs
 
 returns : tie.Need-returns
 returns c =
-    let start = c .before .before .before in
-    let a = start .args in
+    let a = c .before .before .before .args in
     (c .number .ensures) ∙ ap number (sym (given-other (a .i) (a .f .now) (λ seven. omega (arith, seven, c .before .if1 .taken))))
 
 number-requires-2 : tie.Need-number-requires-2
@@ -21,14 +20,12 @@ number-requires-2 c κs = search needs
 
 returns-2 : tie.Need-returns-2
 returns-2 c =
-    let start = c .before .before .before .before in
-    let a = start .args in
+    let a = c .before .before .before .before .args in
     (c .number2 .ensures) ∙ ap number (sym (given-some (a .i) (a .f .now) (c .before .if2 .taken)))
 
 returns-3 : tie.Need-returns-3
 returns-3 c =
-    let start = c .before .before .before in
-    let a = start .args in
+    let a = c .before .before .before .args in
     sym (given-none (a .i) (a .f .now) (omega (arith, c .before .if1 .left)) (c .if2 .left))
 
 pub meant-spec : {M : Type 1} → statement M

@@ -12,7 +12,7 @@ use Rattle.forms.proofs.field.take.Statement.{statement}
 use Rattle.forms.proofs.field.take.Tie as tie
 
 returns : tie.Need-returns
-returns c = taken-missing (c .before .before .args .input .now) (c .before .before .args .at) (c .before .before .args .i) (c .before .before .args .k) (c .before .before .args .highest) 0 (c .before .before .args .at) (c .if1 .taken)
+returns c = taken-missing (c .if1 .taken)
 
 end-requires : tie.Need-end-requires
 end-requires c κs = search needs
@@ -25,8 +25,7 @@ part-meant-start c = search needs
 
 part-meant-end : tie.Need-part-meant-end
 part-meant-end c =
-    let start = c .before .before .before in
-    let a = start .args in
+    let a = c .before .before .before .args in
     end-le (a .input .now) (a .at) (c .end .result) (c .before .if1 .left) (c .end .ensures)
 
 meant-requires : tie.Need-meant-requires
@@ -43,10 +42,9 @@ returns-2 c =
     let at-meant = c .before .before in
     let at-end = at-meant .before .before in
     let at-if1 = at-end .before in
-    let start = at-if1 .before .before in
-    let a = start .args in
+    let a = at-if1 .before .before .args in
     let field = ap (λ (f : List ℕ). number (asMeant (a .i) f)) (part-piece (a .input .now) (a .at) (at-end .end .result) (at-if1 .if1 .left) (at-end .end .ensures)) in
-    taken-faulty (a .input .now) (a .at) (a .i) (a .k) (a .highest) 0 (at-end .end .result) _ _ (at-if1 .if1 .left) (sym field ∙ sym (at-meant .meant .ensures) ∙ ap valueOf (c .enum-told .given .1))
+    taken-faulty (at-if1 .if1 .left) (sym field ∙ sym (at-meant .meant .ensures) ∙ ap valueOf (c .enum-told .given .1))
 
 outside-requires : tie.Need-outside-requires
 outside-requires c κs = search needs
@@ -57,10 +55,9 @@ returns-3 c =
     let at-meant = at-v .before .before in
     let at-end = at-meant .before .before in
     let at-if1 = at-end .before in
-    let start = at-if1 .before .before in
-    let a = start .args in
+    let a = at-if1 .before .before .args in
     let field = ap (λ (f : List ℕ). number (asMeant (a .i) f)) (part-piece (a .input .now) (a .at) (at-end .end .result) (at-if1 .if1 .left) (at-end .end .ensures)) in
-    taken-number (a .input .now) (a .at) (a .i) (a .k) (a .highest) (c .outside .result) _ (at-end .end .result) (at-if1 .if1 .left) (sym field ∙ sym (at-meant .meant .ensures) ∙ ap valueOf (at-v .v .given .1)) (c .outside .ensures) (at-end .end .ensures)
+    taken-number (at-if1 .if1 .left) (sym field ∙ sym (at-meant .meant .ensures) ∙ ap valueOf (at-v .v .given .1)) (c .outside .ensures) (at-end .end .ensures)
 
 pub take-spec : {M : Type 1} → statement M
 take-spec =

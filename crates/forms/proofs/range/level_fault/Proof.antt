@@ -15,15 +15,13 @@ too-many-requires c κs = search needs
 returns-2 : tie.Need-returns-2
 returns-2 c =
     let at-if1 = c .before .before in
-    let start = at-if1 .before in
-    let a = start .args in
+    let a = at-if1 .before .args in
     simp (le-ltb (a .highest) (a .v) (omega (arith, at-if1 .if1 .left)), sym (c .before .too-many .ensures), (c .if2 .taken))
 
 returns-3 : tie.Need-returns-3
 returns-3 c =
     let at-if1 = c .before .before in
-    let start = at-if1 .before in
-    let a = start .args in
+    let a = at-if1 .before .args in
     simp (le-ltb (a .highest) (a .v) (omega (arith, at-if1 .if1 .left)), sym (c .before .too-many .ensures), (c .if2 .left))
 
 pub level-fault-spec : {M : Type 1} → statement M

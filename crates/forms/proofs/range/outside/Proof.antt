@@ -15,14 +15,12 @@ returns c = (c .count-fault .ensures) ∙ sym (outside-4 (c .before .before .arg
 
 returns-2 : tie.Need-returns-2
 returns-2 c =
-    let start = c .before .before .before in
-    let a = start .args in
+    let a = c .before .before .before .args in
     sym (outside-5 (a .v) (a .k) (a .highest) (a .i) (c .before .if2 .taken) ∙ simp (lt-ltb 21 (a .v) (omega (arith, c .if3 .taken))))
 
 returns-3 : tie.Need-returns-3
 returns-3 c =
-    let start = c .before .before .before in
-    let a = start .args in
+    let a = c .before .before .before .args in
     sym (outside-5 (a .v) (a .k) (a .highest) (a .i) (c .before .if2 .taken) ∙ simp (le-ltb 21 (a .v) (omega (arith, c .if3 .left))))
 
 count-fault-requires-2 : tie.Need-count-fault-requires-2
@@ -30,8 +28,7 @@ count-fault-requires-2 c κs = search needs
 
 returns-4 : tie.Need-returns-4
 returns-4 c =
-    let start = c .before .before .before .before in
-    let a = start .args in
+    let a = c .before .before .before .before .args in
     (c .count-fault2 .ensures) ∙ sym (outside-6 (a .v) (a .k) (a .highest) (a .i) (c .before .if4 .taken))
 
 level-fault-requires : tie.Need-level-fault-requires
@@ -47,8 +44,7 @@ returns-6 : tie.Need-returns-6
 returns-6 c =
     let at-if2 = c .before .before in
     let at-if1 = at-if2 .before in
-    let start = at-if1 .before in
-    let a = start .args in
+    let a = at-if1 .before .args in
     sym (outside-none (a .v) (a .k) (a .highest) (a .i) (at-if1 .if1 .left) (at-if2 .if2 .left) (c .before .if4 .left) (c .if5 .left))
 
 pub outside-spec : {M : Type 1} → statement M
