@@ -1,4 +1,5 @@
 -- `answer` meets its contract: what was read is printed where its length fits. Assumes nothing.
+use native.Mathlib.Omega.{arith}
 use borrow.Author.Needs.{needs}
 use Rattle.forms.specs.Forms.{formOf}
 use Rattle.orders.proofs.Answering.{not-answered, answered}
@@ -21,7 +22,7 @@ returns c =
     let sized = at-print .print in
     let asked = at-read .read in
     let a = at-read .before .before .before .args in
-    not-answered (a .input .now) (a .out .now) (formOf (asked .result)) (asked .ensures) (sized .result) (sized .ensures .end) (c .if1 .taken)
+    not-answered (a .input .now) (a .out .now) (formOf (asked .result)) (asked .ensures) (sized .result) (sized .ensures .end) (omega (arith, c .if1 .taken))
 
 print-requires-2 : tie.Need-print-requires-2
 print-requires-2 c κs = search needs
