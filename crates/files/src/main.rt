@@ -1,6 +1,6 @@
 // Runs document 01's file examples: the files of a uniform start and of its leaf 2 refined, read back; and two numbers of a file.
-use gridfile::GridAnswer;
 use paper::NumberAnswer;
+use reader::GridAnswer;
 
 fn refused(number: u8, place: u64) {
     io::write_all(1, b"refused ");
@@ -55,7 +55,7 @@ fn say_grid(bytes: &[u8]) {
     let mut roots: [u16; 15] = [0; 15];
     let mut levels: [u8; 15] = [0; 15];
     let mut positions: [u64; 15] = [0; 15];
-    match gridfile::read(bytes, &mut roots, &mut levels, &mut positions) {
+    match reader::read(bytes, &mut roots, &mut levels, &mut positions) {
         GridAnswer::Is(k, leaves) => {
             io::print_decimal(1, k as u64);
             io::write_all(1, b" roots, ");
@@ -75,7 +75,7 @@ fn uniform() {
     columns::uniform(1, 1, &mut roots, &mut levels, &mut positions);
     io::write_all(1, b"uniform at level 1:");
     say_file(
-        gridfile::write(1, &roots, &levels, &positions, &mut bytes),
+        writer::write(1, &roots, &levels, &positions, &mut bytes),
         &bytes,
     );
     io::write_all(1, b"read back: ");
@@ -105,7 +105,7 @@ fn refined() {
     );
     io::write_all(1, b"leaf 2 refined:");
     say_file(
-        gridfile::write(1, &roots2, &levels2, &positions2, &mut bytes),
+        writer::write(1, &roots2, &levels2, &positions2, &mut bytes),
         &bytes,
     );
     io::write_all(1, b"read back: ");

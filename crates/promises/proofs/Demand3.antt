@@ -23,7 +23,7 @@ use Rattle.shares.specs.Laws.{Fair, Weighty}
 use Rattle.prism.proofs.Laws as prism-laws
 use Rattle.adaption.proofs.Promised as adaption-laws
 use Rattle.shares.proofs.Promised as shares-laws
-use Rattle.gridfile.proofs.OneFile.{loads-valid}
+use Rattle.gridfile.proofs.RoundTrip.{loads-valid}
 use Rattle.promises.specs.Demand3.{Divided, OfGrids}
 
 of-list : (K P : ℕ) (vs : List Leaf) (ws : List ℕ) → Valid 8 21 K vs → 0 < length vs → length ws ≡ length vs → Weighty ws → 0 < P → Divided K P vs ws

@@ -1,8 +1,10 @@
 -- `at` meets its contract: a mark is a turn, but for a 2 where no family begins. Assumes nothing.
 use mathlib.Core.Path.{_∙_, sym}
+use mathlib.Core.Bool.{true≢false}
 use Prim.Native.Nat.{_^_}
 use native.Mathlib.Omega.{arith}
 use lib.Pow.{pow-pos}
+use borrow.Author.Needs.{needs}
 use Rattle.leaves.specs.Leaves.{columns}
 use Rattle.adaption.proofs.Beginning.{turn-none, turn-family, turn-mark}
 use Rattle.adaption.proofs.turn.at.Statement.{statement}
@@ -17,24 +19,26 @@ shared-slice-read-result c = omega (arith, c .before .before .before .before .be
 returns : tie.Need-returns
 returns c =
     let a = c .before .before .before .before .before .before .before .args in
-    let inside = c .before .before .before .before .before .before .before .pre .1 .0 in
-    turn-mark (2 ^ a .bits) (pow-pos (a .bits)) (columns (a .roots .now) (a .levels .now) (a .positions .now)) (a .marks .now) (a .i) inside
-    (c .before .before .before .before .before .before .before .pre .1 .1 .known (a .i) inside) (c .before .if1 .taken)
+    let p = c .before .before .before .before .before .before .before .pre in
+    turn-mark (2 ^ a .bits) (pow-pos (a .bits)) (columns (a .roots .now) (a .levels .now) (a .positions .now)) (a .marks .now) (p .1 .1) (a .i) (p .1 .0)
+    (c .before .if1 .taken)
 
 begins-requires : tie.Need-begins-requires
-begins-requires c κs = c .before .before .before .before .before .before .pre
+begins-requires c κs = search needs
 
 returns-2 : tie.Need-returns-2
 returns-2 c =
     let a = c .before .before .before .before .before .before .before .before .args in
-    turn-family (2 ^ a .bits) (pow-pos (a .bits)) (columns (a .roots .now) (a .levels .now) (a .positions .now)) (a .marks .now) (a .i) (c .before .before .before .before .before .before .before .before .pre .1 .0)
-    (c .before .before .if1 .left) (sym (c .before .begins .ensures) ∙ c .if2 .taken)
+    let p = c .before .before .before .before .before .before .before .before .pre in
+    turn-family (2 ^ a .bits) (pow-pos (a .bits)) (columns (a .roots .now) (a .levels .now) (a .positions .now)) (a .marks .now) (p .1 .1) (a .i) (p .1 .0)
+    (c .before .before .if1 .left) (c .before .begins .ensures .0 (c .if2 .taken))
 
 returns-3 : tie.Need-returns-3
 returns-3 c =
     let a = c .before .before .before .before .before .before .before .before .args in
-    turn-none (2 ^ a .bits) (pow-pos (a .bits)) (columns (a .roots .now) (a .levels .now) (a .positions .now)) (a .marks .now) (a .i) (c .before .before .before .before .before .before .before .before .pre .1 .0)
-    (c .before .before .if1 .left) (sym (c .before .begins .ensures) ∙ c .if2 .left)
+    let p = c .before .before .before .before .before .before .before .before .pre in
+    turn-none (2 ^ a .bits) (pow-pos (a .bits)) (columns (a .roots .now) (a .levels .now) (a .positions .now)) (a .marks .now) (p .1 .1) (a .i) (p .1 .0)
+    (c .before .before .if1 .left) (λ b. true≢false (sym (c .before .begins .ensures .1 b) ∙ c .if2 .left))
 
 pub at-spec : {M : Type 1} → statement M
 at-spec =

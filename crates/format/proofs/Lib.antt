@@ -1,0 +1,14 @@
+pub mod Keys
+pub mod Runs
+pub mod Fitting
+pub mod Taking
+pub mod AreRuns
+pub mod Tests
+pub mod Following
+pub mod ReadBack
+pub mod Accepting
+pub mod Standing
+pub mod OneFile
+pub mod Units
+pub mod Spots
+pub mod Faults

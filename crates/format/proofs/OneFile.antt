@@ -1,0 +1,45 @@
+-- A list has one file and a file one list: reading and writing undo each other. Assumes nothing.
+use mathlib.Core.Path.{_≡_, refl, ap, _∙_, sym}
+use mathlib.Core.List.{List}
+use Prim.Native.Nat.{ℕ, _≤_, _<_}
+use Rattle.paper.specs.Outcome.{Outcome, accepted, refused}
+use Rattle.leaves.specs.Leaves.{leaves}
+use Rattle.format.specs.File.{runsFile, fileOf}
+use Rattle.numbers.specs.Numbers.{highest}
+use Rattle.format.specs.Reading.{Grid, gridAt}
+use Rattle.numbers.specs.Laws.{Bytes}
+use Rattle.format.specs.Laws.{FileOf, OneFile}
+use Rattle.format.proofs.ReadBack.{read-back}
+use Rattle.format.proofs.Taking.{accepted-same}
+use Rattle.format.proofs.Accepting.{valid-grid, accepted-file}
+use Rattle.format.proofs.Standing.{grid-stands}
+use Rattle.format.proofs.AreRuns.{runs-are, runs-only}
+
+module _ (n L : ℕ) (positive : 0 < n) (low : L ≤ highest) where
+  -- a file is that of its list, whatever runs it names
+  pub file-is : (bs : List ℕ) (g : Grid) → FileOf n L bs g → bs ≡ fileOf (g .roots) (g .leaves)
+  file-is bs g f = f .file ∙ ap (runsFile (g .roots)) (runs-only (f .runs) (g .leaves) (f .are))
+
+  reads : (bs : List ℕ) (g : Grid) → FileOf n L bs g → gridAt n L bs ≡ accepted g
+  reads bs g f =
+      let v = f .grid in
+      ap (gridAt n L) (file-is bs g f) ∙ read-back n L positive low (g .roots) (g .leaves) (v .some-root) (v .few-roots) (v .few) (v .valid)
+
+  pub one-file : OneFile n L
+  one-file =
+      record {
+        runs-are = runs-are;
+        runs-only = runs-only;
+        read-back = reads;
+        valid-read = valid-grid n L positive;
+        written-back = accepted-file n L positive;
+        others-refused = λ bs all none. by bs all none (gridAt n L bs) refl;
+        stands = λ bs more number at e other there. grid-stands bs more n L number at other there e;
+        one-list = λ bs g g′ f f′. accepted-same g g′ (sym (reads bs g f) ∙ reads bs g′ f′);
+        one-file = λ bs bs′ g f f′. file-is bs g f ∙ sym (file-is bs′ g f′);
+      }
+    where
+      by : (bs : List ℕ) → Bytes bs → ((g : Grid) → FileOf n L bs g → ⊥) → (o : Outcome Grid) → gridAt n L bs ≡ o
+          → (number : ℕ) × ((at : ℕ) × (gridAt n L bs ≡ refused number at))
+      by bs all none (accepted g) e = absurd (none g (accepted-file n L positive bs g all e))
+      by bs all none (refused number at) e = (number, (at, e))
