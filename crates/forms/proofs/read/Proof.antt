@@ -53,9 +53,7 @@ loop-again : tie.Need-loop-again Inv-loop μ-loop
 loop-again c =
     let at-take = c .before .before .before in
     let at-loop-test = at-take .before in
-    let at-loop = at-loop-test .before in
-    let a = at-loop .before .before .args in
-    let l = at-loop .loop in
+    let l = at-loop-test .before .loop in
     rw (c .after .ensures) (reading-step (l .inv) (at-loop-test .loop-test .taken) (at-take .take .ensures) (c .before .if1 .left))
 
 closing-requires : tie.Need-closing-requires Inv-loop μ-loop
@@ -89,31 +87,19 @@ array-read-t40 : tie.Need-array-read-t40 Inv-loop μ-loop
 array-read-t40 c = omega (arith, (c .before .before .before .loop .inv .long))
 
 mul-t41 : tie.Need-mul-t41 Inv-loop μ-loop
-mul-t41 c =
-    let at-loop-test = c .before .before in
-    let l = at-loop-test .before .loop in
-    omega (arith, level-small (l .inv) (at-loop-test .loop-test .left))
+mul-t41 c = omega (arith, level-small (c .before .before .before .loop .inv) (c .before .before .loop-test .left))
 
 shl-t42 : tie.Need-shl-t42 Inv-loop μ-loop
-shl-t42 c =
-    let at-loop-test = c .before .before in
-    let l = at-loop-test .before .loop in
-    omega (arith, level-small (l .inv) (at-loop-test .loop-test .left))
+shl-t42 c = omega (arith, level-small (c .before .before .before .loop .inv) (c .before .before .loop-test .left))
 
 cast-t43 : tie.Need-cast-t43 Inv-loop μ-loop
-cast-t43 c =
-    let at-loop-test = c .before .before in
-    let l = at-loop-test .before .loop in
-    omega (arith, leaves-small (l .inv) (at-loop-test .loop-test .left))
+cast-t43 c = omega (arith, leaves-small (c .before .before .before .loop .inv) (c .before .before .loop-test .left))
 
 array-read-t46 : tie.Need-array-read-t46 Inv-loop μ-loop
 array-read-t46 c = omega (arith, (c .before .before .before .loop .inv .long))
 
 cast-t47 : tie.Need-cast-t47 Inv-loop μ-loop
-cast-t47 c =
-    let at-loop-test = c .before .before in
-    let l = at-loop-test .before .loop in
-    omega (arith, shares-small (l .inv) (at-loop-test .loop-test .left))
+cast-t47 c = omega (arith, shares-small (c .before .before .before .loop .inv) (c .before .before .loop-test .left))
 
 returns-3 : tie.Need-returns-3 Inv-loop μ-loop
 returns-3 c =
