@@ -10,10 +10,10 @@ pub fn end(input: &[u8], at: usize) -> usize
 {
     let mut i = at;
     while i < input.len() {
-        if input[i] == 10 {
+        if input[i] == b'\n' {
             return i;
         }
-        if input[i] == 59 {
+        if input[i] == b';' {
             return i;
         }
         i += 1;
@@ -28,7 +28,7 @@ pub fn after(input: &[u8], end: usize) -> usize
     if input.len() <= end {
         return input.len() + 1;
     }
-    if input[end] == 59 {
+    if input[end] == b';' {
         return end + 1;
     }
     input.len() + 1
@@ -44,5 +44,5 @@ pub fn closing(input: &[u8], end: usize) -> bool
     if end + 1 != input.len() {
         return false;
     }
-    input[end] == 10
+    input[end] == b'\n'
 }

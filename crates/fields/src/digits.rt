@@ -16,7 +16,7 @@ fn leading_zero(f: &[u8]) -> bool
     if f.len() == 0 {
         return false;
     }
-    if f[0] != 48 {
+    if f[0] != b'0' {
         return false;
     }
     f.len() != 1

@@ -47,8 +47,8 @@ reading-start s v long =
       sound = λ j low high. absurd (omega arith);
     }
 
-module _ (s v : List ℕ) (at end i : ℕ) (reading : Reading s v at end i) where
-  module _ (more : i < 8) (r : Found) (taken : Taken s at i (getD v 4 0) (getD v 5 0) r) where
+module _ {s v : List ℕ} {at end i : ℕ} (reading : Reading s v at end i) where
+  module _ (more : i < 8) {r : Found} (taken : Taken s at i (getD v 4 0) (getD v 5 0) r) where
     here : getD (fields s) (i - 1) [] ≡ piece (drop at s)
     here = field-at s (i - 1) at end (reading .come)
 
@@ -71,7 +71,7 @@ module _ (s v : List ℕ) (at end i : ℕ) (reading : Reading s v at end i) wher
 
     module _ (none : r .fault ≡ 0) where
       inside : at ≤ length s
-      inside = taken-inside s at i (getD v 4 0) (getD v 5 0) r taken none
+      inside = taken-inside taken none
 
       pub reading-step : Reading s (set v i (r .number)) (next s (r .end)) (r .end) (i + 1)
       reading-step =

@@ -22,7 +22,7 @@ form-same : {a b c d e g h a′ b′ c′ d′ e′ g′ h′ : ℕ} → a ≡ a
     (record { order = a′; site = b′; model = c′; roots = d′; level = e′; leaves = g′; shares = h′ })
 form-same p q r t u w x = cc
 
-module _ (s v : List ℕ) (at end i : ℕ) (reading : Reading s v at end i) where
+module _ {s v : List ℕ} {at end i : ℕ} (reading : Reading s v at end i) where
   -- ---- after the seventh field
   module _ (done : 8 ≤ i) where
     eight : i ≡ 8

@@ -34,6 +34,7 @@ pub record SameShares (f : Form) : Type 0 where
 pub record Promised : Type 0 where
   pub first-bytes : (s : List ℕ) → output (take longestInput s) ≡ output s
   pub ordered : (s : List ℕ) (f : Form) → read s ≡ accepted f → formIn (fields s) ≡ f
-  pub repeats : (s : List ℕ) (f : Form) (i : ℕ) → read s ≡ accepted f → 1 ≤ i → i ≤ 6 → decimal (numberIn (fields s) i) ≡ getD (fields s) (i - 1) []
+  pub repeats : (s : List ℕ) (f : Form) (i : ℕ) → read s ≡ accepted f → 1 ≤ i → i ≤ 6
+      → decimal (numberIn (fields s) i) ≡ getD (fields s) (i - 1) []
   pub same-shares : (s : List ℕ) (f : Form) → read s ≡ accepted f → SameShares f
   pub room : (s : List ℕ) → length (output s) ≤ longestOutput

@@ -8,10 +8,11 @@ use native.Mathlib.Nat.{pow-le-pow-right}
 use native.Mathlib.Omega.{arith}
 use lib.Dec.{eqb, leb}
 use lib.ListN.{length, getD}
-use borrow.Author.Tests.{leb-true, eqb-true, eqb-false, eq-eqb, ne-eqb, not-true, not-false}
+use borrow.Author.Tests.{leb-true, eqb-true, eqb-false, eq-eqb, not-true, not-false}
 use Rattle.paper.proofs.Tests.{no-fault}
 use Rattle.fields.specs.Fields.{isDigit, allDigits, leadingZero, isNumber, valueFrom, value}
 use Rattle.forms.specs.Forms.{given, numberIn, outside, fault}
+use Rattle.forms.proofs.Meaning.{given-other}
 use Rattle.text.specs.Text.{decimal}
 use Rattle.fields.proofs.Numbers.{digit-below}
 use Rattle.text.proofs.Decimals.{decimal-small, decimal-more}
@@ -92,5 +93,5 @@ decimal-value (b ∷ f) is =
 pub field-repeated : (fs : List (List ℕ)) (i : ℕ) → i ≤ 6 → fault fs i ≡ 0 → decimal (numberIn fs i) ≡ getD fs (i - 1) []
 field-repeated fs i early none =
     let range = outside i (numberIn fs i) (numberIn fs 4) (numberIn fs 5) in
-    let form = no-fault (not (isNumber (given fs i))) 22 range (no-fault (leb (length fs) (i - 1)) 22 _ none .1) .0 in
-    decimal-value (given fs i) (not-false (isNumber (given fs i)) form) ∙ simp (ne-eqb i 7 (λ d. omega (arith, d)))
+    let is = no-fault (not (isNumber (given fs i))) 22 range (no-fault (leb (length fs) (i - 1)) 22 _ none .1) .0 in
+    decimal-value (given fs i) (not-false (isNumber (given fs i)) is) ∙ given-other i (getD fs (i - 1) []) (λ d. omega (arith, d))

@@ -39,11 +39,11 @@ fn decimal(out: &mut [u8], at: usize, n: u64) -> usize
     ensures { λ r. ⌜ Put (Text·decimal n) at (now (out .entry)) (now (out .exit)) r ⌝ }
 {
     if n < 10 {
-        put(out, at, 48 + n as u8);
+        put(out, at, b'0' + n as u8);
         return at + 1;
     }
     let last = decimal(out, at, n / 10);
-    put(out, last, 48 + (n % 10) as u8);
+    put(out, last, b'0' + (n % 10) as u8);
     last + 1
 }
 
@@ -73,13 +73,13 @@ fn first_line(out: &mut [u8], f: Form) -> usize
     ensures { λ r. ⌜ Put (firstLine f) 0 (now (out .entry)) (now (out .exit)) r ⌝ }
     ensures { λ r. ⌜ r ≤ 190 ⌝ }
 {
-    let at = entry(out, 0, b"order ", f.order, 32);
-    let at = entry(out, at, b"site ", f.site, 32);
-    let at = entry(out, at, b"model ", f.model, 32);
-    let at = entry(out, at, b"roots ", f.roots, 32);
-    let at = entry(out, at, b"level ", f.level, 32);
-    let at = entry(out, at, b"leaves ", f.leaves as u64, 32);
-    entry(out, at, b"shares ", f.shares as u64, 10)
+    let at = entry(out, 0, b"order ", f.order, b' ');
+    let at = entry(out, at, b"site ", f.site, b' ');
+    let at = entry(out, at, b"model ", f.model, b' ');
+    let at = entry(out, at, b"roots ", f.roots, b' ');
+    let at = entry(out, at, b"level ", f.level, b' ');
+    let at = entry(out, at, b"leaves ", f.leaves as u64, b' ');
+    entry(out, at, b"shares ", f.shares as u64, b'\n')
 }
 
 // The line of share s, which holds the leaves from `from` up to `to`.
@@ -89,9 +89,9 @@ fn share_line(out: &mut [u8], at: usize, s: u64, from: u64, to: u64) -> usize
     ensures { λ r. ⌜ Put (shareLine s from to) at (now (out .entry)) (now (out .exit)) r ⌝ }
     ensures { λ r. ⌜ r ≤ at + 63 ⌝ }
 {
-    let a = number(out, at, s, 32);
-    let b = number(out, a, from, 32);
-    number(out, b, to - from, 10)
+    let a = number(out, at, s, b' ');
+    let b = number(out, a, from, b' ');
+    number(out, b, to - from, b'\n')
 }
 
 // The lines of p shares of n leaves of equal weight: share s begins at leaf s·n / p, the thesis's formula 27.
@@ -115,8 +115,8 @@ fn share_lines(out: &mut [u8], at: usize, n: u32, p: u16) -> usize
 fn refusal(out: &mut [u8], fault: u8, field: u64) -> usize
     ensures { λ r. ⌜ Put (refusalLine fault field) 0 (now (out .entry)) (now (out .exit)) r ⌝ }
 {
-    let at = entry(out, 0, b"refused ", fault as u64, 32);
-    entry(out, at, b"field ", field, 10)
+    let at = entry(out, 0, b"refused ", fault as u64, b' ');
+    entry(out, at, b"field ", field, b'\n')
 }
 
 // All that is printed, at the front of a lent buffer, and how many bytes that is.

@@ -1,8 +1,7 @@
 -- `read` meets its contract: before each field, those to the left are without fault and their numbers are kept. Assumes nothing.
-use mathlib.Core.Path.{refl, subst, sym, _∙_}
-use Prim.Native.Nat.{ℕ, _+_, _-_}
+use mathlib.Core.Path.{refl, sym, _∙_}
+use Prim.Native.Nat.{_-_}
 use native.Mathlib.Omega.{arith}
-use lib.ListN.{set}
 use borrow.Author.Needs.{needs}
 use borrow.Author.Tests.{not-true, not-false}
 use Rattle.forms.proofs.Deciding.{Reading, reading-start, reading-refused, reading-step}
@@ -29,7 +28,11 @@ take-requires : tie.Need-take-requires Inv-loop μ-loop
 take-requires c κs = search needs
 
 returns : tie.Need-returns Inv-loop μ-loop
-returns c = reading-refused (c .before .before .before .before .before .before .args .input .now) (c .before .before .before .before .loop .v) (c .before .before .before .before .loop .at) (c .before .before .before .before .loop .end) (c .before .before .before .before .loop .i) (c .before .before .before .before .loop .inv) (c .before .before .before .loop-test .taken) (c .before .before .take .result) (c .before .before .take .ensures) (c .if1 .taken)
+returns c =
+    let at-take = c .before .before in
+    let at-loop-test = at-take .before in
+    let l = at-loop-test .before .loop in
+    reading-refused (l .inv) (at-loop-test .loop-test .taken) (at-take .take .ensures) (c .if1 .taken)
 
 mul-v : tie.Need-mul-v Inv-loop μ-loop
 mul-v c = omega arith
@@ -47,13 +50,20 @@ loop-less : tie.Need-loop-less Inv-loop μ-loop
 loop-less c = omega arith
 
 loop-again : tie.Need-loop-again Inv-loop μ-loop
-loop-again c = subst (λ (a : ℕ). Reading (c .before .before .before .before .before .before .before .args .input .now) (set (c .before .before .before .before .before .loop .v) (c .before .before .before .before .before .loop .i) (c .before .before .before .take .result .number)) a (c .before .before .before .take .result .end) ((c .before .before .before .before .before .loop .i) + 1)) (sym (c .after .ensures)) (reading-step (c .before .before .before .before .before .before .before .args .input .now) (c .before .before .before .before .before .loop .v) (c .before .before .before .before .before .loop .at) (c .before .before .before .before .before .loop .end) (c .before .before .before .before .before .loop .i) (c .before .before .before .before .before .loop .inv) (c .before .before .before .before .loop-test .taken) (c .before .before .before .take .result) (c .before .before .before .take .ensures) (c .before .if1 .left))
+loop-again c =
+    let at-take = c .before .before .before in
+    let at-loop-test = at-take .before in
+    let l = at-loop-test .before .loop in
+    rw (c .after .ensures) (reading-step (l .inv) (at-loop-test .loop-test .taken) (at-take .take .ensures) (c .before .if1 .left))
 
 closing-requires : tie.Need-closing-requires Inv-loop μ-loop
 closing-requires c κs = search needs
 
 returns-2 : tie.Need-returns-2 Inv-loop μ-loop
-returns-2 c = reading-open (c .before .before .before .before .before .args .input .now) (c .before .before .before .loop .v) (c .before .before .before .loop .at) (c .before .before .before .loop .end) (c .before .before .before .loop .i) (c .before .before .before .loop .inv) (c .before .before .loop-test .left) (sym (c .before .closing .ensures) ∙ not-true (c .before .closing .result) (c .if2 .taken))
+returns-2 c =
+    let at-loop-test = c .before .before in
+    let l = at-loop-test .before .loop in
+    reading-open (l .inv) (at-loop-test .loop-test .left) (sym (c .before .closing .ensures) ∙ not-true (c .before .closing .result) (c .if2 .taken))
 
 array-read-t22 : tie.Need-array-read-t22 Inv-loop μ-loop
 array-read-t22 c = omega (arith, (c .before .before .before .loop .inv .long))
@@ -77,22 +87,25 @@ array-read-t40 : tie.Need-array-read-t40 Inv-loop μ-loop
 array-read-t40 c = omega (arith, (c .before .before .before .loop .inv .long))
 
 mul-t41 : tie.Need-mul-t41 Inv-loop μ-loop
-mul-t41 c = omega (arith, level-small (c .before .before .before .before .before .args .input .now) (c .before .before .before .loop .v) (c .before .before .before .loop .at) (c .before .before .before .loop .end) (c .before .before .before .loop .i) (c .before .before .before .loop .inv) (c .before .before .loop-test .left))
+mul-t41 c = omega (arith, level-small (c .before .before .before .loop .inv) (c .before .before .loop-test .left))
 
 shl-t42 : tie.Need-shl-t42 Inv-loop μ-loop
-shl-t42 c = omega (arith, level-small (c .before .before .before .before .before .args .input .now) (c .before .before .before .loop .v) (c .before .before .before .loop .at) (c .before .before .before .loop .end) (c .before .before .before .loop .i) (c .before .before .before .loop .inv) (c .before .before .loop-test .left))
+shl-t42 c = omega (arith, level-small (c .before .before .before .loop .inv) (c .before .before .loop-test .left))
 
 cast-t43 : tie.Need-cast-t43 Inv-loop μ-loop
-cast-t43 c = omega (arith, leaves-small (c .before .before .before .before .before .args .input .now) (c .before .before .before .loop .v) (c .before .before .before .loop .at) (c .before .before .before .loop .end) (c .before .before .before .loop .i) (c .before .before .before .loop .inv) (c .before .before .loop-test .left))
+cast-t43 c = omega (arith, leaves-small (c .before .before .before .loop .inv) (c .before .before .loop-test .left))
 
 array-read-t46 : tie.Need-array-read-t46 Inv-loop μ-loop
 array-read-t46 c = omega (arith, (c .before .before .before .loop .inv .long))
 
 cast-t47 : tie.Need-cast-t47 Inv-loop μ-loop
-cast-t47 c = omega (arith, shares-small (c .before .before .before .before .before .args .input .now) (c .before .before .before .loop .v) (c .before .before .before .loop .at) (c .before .before .before .loop .end) (c .before .before .before .loop .i) (c .before .before .before .loop .inv) (c .before .before .loop-test .left))
+cast-t47 c = omega (arith, shares-small (c .before .before .before .loop .inv) (c .before .before .loop-test .left))
 
 returns-3 : tie.Need-returns-3 Inv-loop μ-loop
-returns-3 c = reading-form (c .before .before .before .before .before .args .input .now) (c .before .before .before .loop .v) (c .before .before .before .loop .at) (c .before .before .before .loop .end) (c .before .before .before .loop .i) (c .before .before .before .loop .inv) (c .before .before .loop-test .left) (sym (c .before .closing .ensures) ∙ not-false (c .before .closing .result) (c .if2 .left))
+returns-3 c =
+    let at-loop-test = c .before .before in
+    let l = at-loop-test .before .loop in
+    reading-form (l .inv) (at-loop-test .loop-test .left) (sym (c .before .closing .ensures) ∙ not-false (c .before .closing .result) (c .if2 .left))
 
 pub read-spec : {M : Type 1} → statement M
 read-spec =

@@ -31,10 +31,15 @@ enum-known-size : tie.Need-enum-known-size
 enum-known-size c = search needs
 
 array-share-prefix-text : tie.Need-array-share-prefix-text
-array-share-prefix-text c = answer-within _ _ _ (c .before .before .before .before .answer .result) _ (c .before .before .before .before .answer .ensures) (c .before .size .given .1)
+array-share-prefix-text c =
+    let at-answer = c .before .before .before .before in
+    answer-within _ _ _ (at-answer .answer .result) _ (at-answer .answer .ensures) (c .before .size .given .1)
 
 slice-aggregate-write-all : tie.Need-slice-aggregate-write-all
-slice-aggregate-write-all c = answer-prefix _ _ _ (c .before .before .before .before .before .answer .result) _ (c .before .before .before .before .before .answer .ensures) (c .before .before .size .given .1)
+slice-aggregate-write-all c =
+    let at-size = c .before .before in
+    let at-answer = at-size .before .before .before in
+    answer-prefix _ _ _ (at-answer .answer .result) _ (at-answer .answer .ensures) (at-size .size .given .1)
 
 write-all-requires : tie.Need-write-all-requires
 write-all-requires c κs = search needs
@@ -43,7 +48,9 @@ enum-told : tie.Need-enum-told
 enum-told c = search needs
 
 never-requires : tie.Need-never-requires
-never-requires c κs = answer-never-14 _ _ _ (c .before .before .before .answer .result) _ _ (c .before .before .before .answer .ensures) (c .enum-told .given .1) (le-of-eq (sym (length-replicate {A = ℕ} longestOutput 0)))
+never-requires c κs =
+    let at-answer = c .before .before .before in
+    answer-never-14 _ _ _ (at-answer .answer .result) _ _ (at-answer .answer .ensures) (c .enum-told .given .1) (le-of-eq (sym (length-replicate {A = ℕ} longestOutput 0)))
 
 returns : tie.Need-returns
 returns c = search needs

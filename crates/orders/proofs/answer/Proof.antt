@@ -1,4 +1,5 @@
 -- `answer` meets its contract: what was read is printed where its length fits. Assumes nothing.
+use native.Mathlib.Omega.{arith}
 use borrow.Author.Needs.{needs}
 use Rattle.forms.specs.Forms.{formOf}
 use Rattle.orders.proofs.Answering.{not-answered, answered}
@@ -16,10 +17,12 @@ print-requires c κs = search needs
 
 returns : tie.Need-returns
 returns c =
-    let sized = c .before .before .print in
-    let asked = c .before .before .before .before .read in
-    let a = c .before .before .before .before .before .before .before .args in
-    not-answered (a .input .now) (a .out .now) (formOf (asked .result)) (asked .ensures) (sized .result) (sized .ensures .end) (c .if1 .taken)
+    let at-print = c .before .before in
+    let at-read = at-print .before .before in
+    let sized = at-print .print in
+    let asked = at-read .read in
+    let a = at-read .before .before .before .args in
+    not-answered (a .input .now) (a .out .now) (formOf (asked .result)) (asked .ensures) (sized .result) (sized .ensures .end) (omega (arith, c .if1 .taken))
 
 print-requires-2 : tie.Need-print-requires-2
 print-requires-2 c κs = search needs
@@ -29,11 +32,15 @@ same-length c = search needs
 
 returns-2 : tie.Need-returns-2
 returns-2 c =
-    let put = c .before .before .print2 in
-    let sized = c .before .before .before .before .before .before .print in
-    let asked = c .before .before .before .before .before .before .before .before .read in
-    let a = c .before .before .before .before .before .before .before .before .before .before .before .args in
-    answered (a .input .now) (a .out .now) (formOf (asked .result)) (asked .ensures) (sized .result) (sized .ensures .end) _ (put .result) (c .before .before .before .before .if1 .left) (put .ensures)
+    let at-print2 = c .before .before in
+    let at-if1 = at-print2 .before .before in
+    let at-print = at-if1 .before .before in
+    let at-read = at-print .before .before in
+    let put = at-print2 .print2 in
+    let sized = at-print .print in
+    let asked = at-read .read in
+    let a = at-read .before .before .before .args in
+    answered (a .input .now) (a .out .now) (formOf (asked .result)) (asked .ensures) (sized .result) (sized .ensures .end) _ (put .result) (at-if1 .if1 .left) (put .ensures)
 
 pub answer-spec : {M : Type 1} → statement M
 answer-spec =

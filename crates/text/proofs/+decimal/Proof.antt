@@ -22,117 +22,68 @@ decimal-at t = and 1 decimal-kinds.ps (is 1 decimal-kinds.ps μ-decimal t) decim
 abbrev decimal-below : ℕ → In 1 decimal-kinds.ps
 decimal-below t = and 1 decimal-kinds.ps (falls 1 decimal-kinds.ps _<_ μ-decimal t) decimal.Pre
 
-decimal-cast-put : (t : ℕ) → decimal-lts.Need-cast-put (
-  put-reads.Asked,
-  put-reads.Learnt,
-  decimal-below t,
-  decimal.Post,
-) (decimal-at t) decimal.Post
+-- what the calls of `put` and of itself, for a smaller number, ask and answer
+abbrev claims : ℕ → decimal-lts.Claims
+claims t = (put-reads.Asked, put-reads.Learnt, decimal-below t, decimal.Post)
+
+decimal-cast-put : (t : ℕ) → decimal-lts.Need-cast-put (claims t) (decimal-at t) decimal.Post
 decimal-cast-put t c = omega (arith, c .before .if1 .taken)
 
-decimal-add-put : (t : ℕ) → decimal-lts.Need-add-put (
-  put-reads.Asked,
-  put-reads.Learnt,
-  decimal-below t,
-  decimal.Post,
-) (decimal-at t) decimal.Post
+decimal-add-put : (t : ℕ) → decimal-lts.Need-add-put (claims t) (decimal-at t) decimal.Post
 decimal-add-put t c = omega (arith, c .before .if1 .taken)
 
-decimal-put-requires : (t : ℕ) → decimal-lts.Need-put-requires (
-  put-reads.Asked,
-  put-reads.Learnt,
-  decimal-below t,
-  decimal.Post,
-) (decimal-at t) decimal.Post
+decimal-put-requires : (t : ℕ) → decimal-lts.Need-put-requires (claims t) (decimal-at t) decimal.Post
 decimal-put-requires t c κs = tt
 
-decimal-add-result : (t : ℕ) → decimal-lts.Need-add-result (
-  put-reads.Asked,
-  put-reads.Learnt,
-  decimal-below t,
-  decimal.Post,
-) (decimal-at t) decimal.Post
+decimal-add-result : (t : ℕ) → decimal-lts.Need-add-result (claims t) (decimal-at t) decimal.Post
 decimal-add-result t c = omega (arith, c .before .before .before .before .before .before .pre .1)
 
-decimal-same-length : (t : ℕ) → decimal-lts.Need-same-length (
-  put-reads.Asked,
-  put-reads.Learnt,
-  decimal-below t,
-  decimal.Post,
-) (decimal-at t) decimal.Post
+decimal-same-length : (t : ℕ) → decimal-lts.Need-same-length (claims t) (decimal-at t) decimal.Post
 decimal-same-length t c = c .before .before .put .kept .0
 
-decimal-returns : (t : ℕ) → decimal-lts.Need-returns (
-  put-reads.Asked,
-  put-reads.Learnt,
-  decimal-below t,
-  decimal.Post,
-) (decimal-at t) decimal.Post
-decimal-returns t c = put-digit (c .before .before .before .before .before .before .args .n) (c .before .before .before .before .before .before .args .at) (c .before .before .before .before .before .before .args .out .now) _ (c .before .before .before .before .if1 .taken) (c .before .before .put .ensures)
+decimal-returns : (t : ℕ) → decimal-lts.Need-returns (claims t) (decimal-at t) decimal.Post
+decimal-returns t c =
+    let at-put = c .before .before in
+    let at-if1 = at-put .before .before in
+    let a = at-if1 .before .before .args in
+    put-digit (a .n) (a .at) (a .out .now) _ (at-if1 .if1 .taken) (at-put .put .ensures)
 
-decimal-decimal-requires : (t : ℕ) → decimal-lts.Need-decimal-requires (
-  put-reads.Asked,
-  put-reads.Learnt,
-  decimal-below t,
-  decimal.Post,
-) (decimal-at t) decimal.Post
-decimal-decimal-requires t c κs = (subst (λ (j : ℕ). (c .before .before .before .args .n) / 10 < j) (c .before .before .before .pre .0) (div-lt-self (omega (arith, c .before .if1 .left)) (omega arith)), c .before .before .before .pre .1)
+decimal-decimal-requires : (t : ℕ) → decimal-lts.Need-decimal-requires (claims t) (decimal-at t) decimal.Post
+decimal-decimal-requires t c κs =
+    let start = c .before .before .before in
+    (subst (λ (j : ℕ). (start .args .n) / 10 < j) (start .pre .0) (div-lt-self (omega (arith, c .before .if1 .left)) (omega arith)), start .pre .1)
 
-decimal-cast-put-2 : (t : ℕ) → decimal-lts.Need-cast-put-2 (
-  put-reads.Asked,
-  put-reads.Learnt,
-  decimal-below t,
-  decimal.Post,
-) (decimal-at t) decimal.Post
+decimal-cast-put-2 : (t : ℕ) → decimal-lts.Need-cast-put-2 (claims t) (decimal-at t) decimal.Post
 decimal-cast-put-2 t c = let ten : 0 < 10 = omega arith in omega (arith, mod-lt (c .before .before .before .before .before .before .before .args .n) ten)
 
-decimal-add-put-2 : (t : ℕ) → decimal-lts.Need-add-put-2 (
-  put-reads.Asked,
-  put-reads.Learnt,
-  decimal-below t,
-  decimal.Post,
-) (decimal-at t) decimal.Post
+decimal-add-put-2 : (t : ℕ) → decimal-lts.Need-add-put-2 (claims t) (decimal-at t) decimal.Post
 decimal-add-put-2 t c = let ten : 0 < 10 = omega arith in omega (arith, mod-lt (c .before .before .before .before .before .before .before .args .n) ten)
 
-decimal-put-requires-2 : (t : ℕ) → decimal-lts.Need-put-requires-2 (
-  put-reads.Asked,
-  put-reads.Learnt,
-  decimal-below t,
-  decimal.Post,
-) (decimal-at t) decimal.Post
+decimal-put-requires-2 : (t : ℕ) → decimal-lts.Need-put-requires-2 (claims t) (decimal-at t) decimal.Post
 decimal-put-requires-2 t c κs = tt
 
-decimal-add-result-2 : (t : ℕ) → decimal-lts.Need-add-result-2 (
-  put-reads.Asked,
-  put-reads.Learnt,
-  decimal-below t,
-  decimal.Post,
-) (decimal-at t) decimal.Post
-decimal-add-result-2 t c = omega (arith, c .before .before .before .before .before .before .before .before .before .before .pre .1, c .before .before .before .before .before .before .decimal .ensures .end, decimal-20 ((c .before .before .before .before .before .before .before .before .before .before .args .n) / 10))
+decimal-add-result-2 : (t : ℕ) → decimal-lts.Need-add-result-2 (claims t) (decimal-at t) decimal.Post
+decimal-add-result-2 t c =
+    let at-decimal = c .before .before .before .before .before .before in
+    let start = at-decimal .before .before .before .before in
+    omega (arith, start .pre .1, at-decimal .decimal .ensures .end, decimal-20 ((start .args .n) / 10))
 
-decimal-same-length-2 : (t : ℕ) → decimal-lts.Need-same-length-2 (
-  put-reads.Asked,
-  put-reads.Learnt,
-  decimal-below t,
-  decimal.Post,
-) (decimal-at t) decimal.Post
-decimal-same-length-2 t c = c .before .before .put2 .kept .0 ∙ c .before .before .before .before .before .before .decimal .kept .0
+decimal-same-length-2 : (t : ℕ) → decimal-lts.Need-same-length-2 (claims t) (decimal-at t) decimal.Post
+decimal-same-length-2 t c =
+    let at-put2 = c .before .before in
+    at-put2 .put2 .kept .0 ∙ at-put2 .before .before .before .before .decimal .kept .0
 
-decimal-returns-2 : (t : ℕ) → decimal-lts.Need-returns-2 (
-  put-reads.Asked,
-  put-reads.Learnt,
-  decimal-below t,
-  decimal.Post,
-) (decimal-at t) decimal.Post
-decimal-returns-2 t c = put-last (c .before .before .before .before .before .before .before .before .before .before .args .n) (c .before .before .before .before .before .before .before .before .before .before .args .at) (c .before .before .before .before .before .before .before .before .before .before .args .out .now) _ _ (c .before .before .before .before .before .before .decimal .result) (c .before .before .before .before .before .before .before .before .if1 .left) (omega (arith, c .before .before .before .before .before .before .before .before .before .before .fits .n)) (c .before .before .before .before .before .before .decimal .ensures) (c .before .before .put2 .ensures)
+decimal-returns-2 : (t : ℕ) → decimal-lts.Need-returns-2 (claims t) (decimal-at t) decimal.Post
+decimal-returns-2 t c =
+    let at-put2 = c .before .before in
+    let at-decimal = at-put2 .before .before .before .before in
+    let at-if1 = at-decimal .before .before in
+    let start = at-if1 .before .before in
+    let a = start .args in
+    put-last (a .n) (a .at) (a .out .now) _ _ (at-decimal .decimal .result) (at-if1 .if1 .left) (omega (arith, start .fits .n)) (at-decimal .decimal .ensures) (at-put2 .put2 .ensures)
 
 pub +decimal-spec : {M : Type 1} → statement M
-+decimal-spec = close μ-decimal λ t. decimal-lts.spec (
-  put-reads.Asked,
-  put-reads.Learnt,
-  decimal-below t,
-  decimal.Post,
-)
++decimal-spec = close μ-decimal λ t. decimal-lts.spec (claims t)
     (decimal-at t)
     decimal.Post
     (decimal-cast-put t)

@@ -15,7 +15,9 @@ same-length : tie.Need-same-length
 same-length c = search needs
 
 returns : tie.Need-returns
-returns c = (put-then (c .before .before .before .before .before .before .word .ensures) (c .before .before .number .ensures .0), omega arith)
+returns c =
+    let at-number = c .before .before in
+    (put-then (at-number .before .before .before .before .word .ensures) (at-number .number .ensures .0), omega arith)
 
 pub entry-spec : {M : Type 1} → statement M
 entry-spec = tie.close (tie.spec word-requires number-requires same-length returns)

@@ -13,15 +13,20 @@ put-requires : tie.Need-put-requires
 put-requires c κs = search needs
 
 add-result : tie.Need-add-result
-add-result c = omega (arith, (c .before .before .before .before .before .before .decimal .ensures .end), decimal-20 (c .before .before .before .before .before .before .before .before .before .args .n))
+add-result c =
+    let at-decimal = c .before .before .before .before .before .before in
+    omega (arith, (at-decimal .decimal .ensures .end), decimal-20 (at-decimal .before .before .before .args .n))
 
 same-length : tie.Need-same-length
 same-length c = search needs
 
 returns : tie.Need-returns
 returns c =
-    let put = put-then (c .before .before .before .before .before .before .decimal .ensures) (put-byte (c .before .before .before .before .before .before .decimal .result) (c .before .before .before .before .before .before .before .before .before .args .after) _ _ (c .before .before .put .ensures)) in
-    (put, omega (arith, put .end, counted-few (c .before .before .before .before .before .before .before .before .before .args .n) (c .before .before .before .before .before .before .before .before .before .args .after)))
+    let at-put = c .before .before in
+    let at-decimal = at-put .before .before .before .before in
+    let a = at-decimal .before .before .before .args in
+    let put = put-then (at-decimal .decimal .ensures) (put-byte (at-decimal .decimal .result) (a .after) _ _ (at-put .put .ensures)) in
+    (put, omega (arith, put .end, counted-few (a .n) (a .after)))
 
 pub number-spec : {M : Type 1} → statement M
 number-spec = tie.close (tie.spec decimal-requires put-requires add-result same-length returns)

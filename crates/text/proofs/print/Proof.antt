@@ -29,14 +29,20 @@ same-length c = search needs
 
 returns : tie.Need-returns
 returns c =
-    subst⁻¹ (λ (o : Outcome Form). Put (spelled o) 0 (c .before .before .before .before .before .before .before .before .before .before .before .before .args .out .now) (c .before .before .share-lines .last .0) (c .before .before .share-lines .result)) (ap formOf (c .before .before .before .before .before .before .before .before .before .asked .given .1))
-    (put-then (c .before .before .before .before .before .before .first-line .ensures .0) (c .before .before .share-lines .ensures))
+    let at-share-lines = c .before .before in
+    let at-first-line = at-share-lines .before .before .before .before in
+    let at-asked = at-first-line .before .before .before in
+    subst⁻¹ (λ (o : Outcome Form). Put (spelled o) 0 (at-asked .before .before .before .args .out .now) (at-share-lines .share-lines .last .0) (at-share-lines .share-lines .result)) (ap formOf (at-asked .asked .given .1))
+    (put-then (at-first-line .first-line .ensures .0) (at-share-lines .share-lines .ensures))
 
 same-length-2 : tie.Need-same-length-2
 same-length-2 c = search needs
 
 returns-2 : tie.Need-returns-2
-returns-2 c = subst⁻¹ (λ (o : Outcome Form). Put (spelled o) 0 (c .before .before .before .before .before .before .before .before .args .out .now) (c .before .before .refusal .last .0) (c .before .before .refusal .result)) (ap formOf (c .before .before .before .before .before .asked2 .given .1)) (c .before .before .refusal .ensures)
+returns-2 c =
+    let at-refusal = c .before .before in
+    let at-asked2 = at-refusal .before .before .before in
+    subst⁻¹ (λ (o : Outcome Form). Put (spelled o) 0 (at-asked2 .before .before .before .args .out .now) (at-refusal .refusal .last .0) (at-refusal .refusal .result)) (ap formOf (at-asked2 .asked2 .given .1)) (at-refusal .refusal .ensures)
 
 pub print-spec : {M : Type 1} → statement M
 print-spec =

@@ -20,7 +20,10 @@ same-length : tie.Need-same-length
 same-length c = search needs
 
 returns : tie.Need-returns
-returns c = put-then (c .before .before .before .before .before .before .before .entry .ensures .0) (c .before .before .entry2 .ensures .0)
+returns c =
+    let at-entry2 = c .before .before in
+    let at-entry = at-entry2 .before .before .before .before .before in
+    put-then (at-entry .entry .ensures .0) (at-entry2 .entry2 .ensures .0)
 
 pub refusal-spec : {M : Type 1} → statement M
 refusal-spec =

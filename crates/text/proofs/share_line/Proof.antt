@@ -21,7 +21,10 @@ same-length : tie.Need-same-length
 same-length c = search needs
 
 returns : tie.Need-returns
-returns c = (put-then (c .before .before .before .before .before .before .before .before .before .before .number .ensures .0) (put-then (c .before .before .before .before .before .before .number2 .ensures .0) (c .before .before .number3 .ensures .0)), omega arith)
+returns c =
+    let at-number3 = c .before .before in
+    let at-number2 = at-number3 .before .before .before .before in
+    (put-then (at-number2 .before .before .before .before .number .ensures .0) (put-then (at-number2 .number2 .ensures .0) (at-number3 .number3 .ensures .0)), omega arith)
 
 pub share-line-spec : {M : Type 1} → statement M
 share-line-spec =

@@ -20,13 +20,19 @@ add-to : tie.Need-add-to Inv-loop μ-loop
 add-to c = omega arith
 
 mul-to : tie.Need-mul-to Inv-loop μ-loop
-mul-to c = omega (arith, product-small (c .before .before .before .args .n) (c .before .before .before .args .p) (c .before .loop .s) (omega arith) (omega arith) (omega arith))
+mul-to c =
+    let a = c .before .before .before .args in
+    omega (arith, product-small (a .n) (a .p) (c .before .loop .s) (omega arith) (omega arith) (omega arith))
 
 div-to : tie.Need-div-to Inv-loop μ-loop
 div-to c = omega arith
 
 share-line-requires : tie.Need-share-line-requires Inv-loop μ-loop
-share-line-requires c κs = (subst⁻¹ (λ (x : ℕ). x ≤ ((c .before .before .loop .s) + 1) * (c .before .before .before .before .args .n) / (c .before .before .before .before .args .p)) ((c .before .before .loop .inv .2)) (first-rises (c .before .before .before .before .args .n) (c .before .before .before .before .args .p) (c .before .before .loop .s) (omega arith)), omega arith)
+share-line-requires c κs =
+    let at-loop = c .before .before in
+    let a = at-loop .before .before .args in
+    let l = at-loop .loop in
+    (subst⁻¹ (λ (x : ℕ). x ≤ ((l .s) + 1) * (a .n) / (a .p)) (l .inv .2) (first-rises (a .n) (a .p) (l .s) (omega arith)), omega arith)
 
 add-s : tie.Need-add-s Inv-loop μ-loop
 add-s c = omega arith
@@ -36,15 +42,19 @@ loop-less c = omega arith
 
 loop-again : tie.Need-loop-again Inv-loop μ-loop
 loop-again c =
-    let a = c .before .before .before .before .before .before .before .args in
-    let l = c .before .before .before .before .before .loop in
-    (omega arith, omega arith, refl, listed-more (a .n) (a .p) (a .at) (a .out .now) (l .s) (l .from) (l .end) _ _ _ (l .inv .2) (l .inv .3) (c .before .before .share-line .ensures .0))
+    let at-share-line = c .before .before in
+    let at-loop = at-share-line .before .before .before in
+    let a = at-loop .before .before .args in
+    let l = at-loop .loop in
+    (omega arith, omega arith, refl, listed-more (a .n) (a .p) (a .at) (a .out .now) (l .s) (l .from) (l .end) _ _ _ (l .inv .2) (l .inv .3) (at-share-line .share-line .ensures .0))
 
 same-length : tie.Need-same-length Inv-loop μ-loop
 same-length c = put-length ((c .before .loop .inv .3))
 
 returns : tie.Need-returns Inv-loop μ-loop
-returns c = listed-done (c .before .before .before .args .n) (c .before .before .before .args .p) (c .before .before .before .args .at) (c .before .before .before .args .out .now) (c .before .loop .s) (c .before .loop .end) (c .before .loop .out) (omega arith) ((c .before .loop .inv .3))
+returns c =
+    let a = c .before .before .before .args in
+    listed-done (a .n) (a .p) (a .at) (a .out .now) (c .before .loop .s) (c .before .loop .end) (c .before .loop .out) (omega arith) (c .before .loop .inv .3)
 
 pub share-lines-spec : {M : Type 1} → statement M
 share-lines-spec =

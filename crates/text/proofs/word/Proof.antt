@@ -33,16 +33,25 @@ loop-less : tie.Need-loop-less Inv-loop μ-loop
 loop-less c = omega arith
 
 loop-again : tie.Need-loop-again Inv-loop μ-loop
-loop-again c = (omega arith, word-more (c .before .before .before .before .before .before .before .before .before .args .out .now) (c .before .before .before .before .before .before .before .before .before .args .text .now) (c .before .before .before .before .before .before .before .before .before .args .at) (c .before .before .before .before .before .before .loop .out) _ (c .before .before .before .before .before .before .loop .i) (omega arith) ((c .before .before .before .before .before .before .loop .inv .1)) (c .before .before .put .ensures))
+loop-again c =
+    let at-put = c .before .before in
+    let at-loop = at-put .before .before .before .before in
+    let a = at-loop .before .before .before .args in
+    let l = at-loop .loop in
+    (omega arith, word-more (a .out .now) (a .text .now) (a .at) (l .out) _ (l .i) (omega arith) (l .inv .1) (at-put .put .ensures))
 
 add-result : tie.Need-add-result Inv-loop μ-loop
 add-result c = omega arith
 
 same-length : tie.Need-same-length Inv-loop μ-loop
-same-length c = ap length ((c .before .loop .inv .1)) ∙ length-sets (c .before .before .before .before .args .out .now) (c .before .before .before .before .args .at) (take (c .before .loop .i) (c .before .before .before .before .args .text .now))
+same-length c =
+    let a = c .before .before .before .before .args in
+    ap length (c .before .loop .inv .1) ∙ length-sets (a .out .now) (a .at) (take (c .before .loop .i) (a .text .now))
 
 returns : tie.Need-returns Inv-loop μ-loop
-returns c = word-done (c .before .before .before .before .args .out .now) (c .before .before .before .before .args .text .now) (c .before .before .before .before .args .at) (c .before .loop .out) (c .before .loop .i) (omega arith) (omega arith) ((c .before .loop .inv .1))
+returns c =
+    let a = c .before .before .before .before .args in
+    word-done (a .out .now) (a .text .now) (a .at) (c .before .loop .out) (c .before .loop .i) (omega arith) (omega arith) (c .before .loop .inv .1)
 
 pub word-spec : {M : Type 1} → statement M
 word-spec =

@@ -18,13 +18,17 @@ add-result-2 : tie.Need-add-result-2
 add-result-2 c = search needs
 
 returns-2 : tie.Need-returns-2
-returns-2 c = sym (next-field (c .before .before .before .args .input .now) (c .before .before .before .args .end) (c .if2 .taken))
+returns-2 c =
+    let a = c .before .before .before .args in
+    sym (next-field (a .input .now) (a .end) (c .if2 .taken))
 
 add-result-3 : tie.Need-add-result-3
 add-result-3 c = search needs
 
 returns-3 : tie.Need-returns-3
-returns-3 c = sym (next-other (c .before .before .before .args .input .now) (c .before .before .before .args .end) (c .if2 .left))
+returns-3 c =
+    let a = c .before .before .before .args in
+    sym (next-other (a .input .now) (a .end) (c .if2 .left))
 
 pub after-spec : {M : Type 1} → statement M
 after-spec =

@@ -19,7 +19,9 @@ shared-slice-read-result : tie.Need-shared-slice-read-result
 shared-slice-read-result c = search needs
 
 returns-3 : tie.Need-returns-3
-returns-3 c = sym (closes-last (c .before .before .before .args .input .now) (c .before .before .before .args .end) (omega (arith, c .before .if2 .left)))
+returns-3 c =
+    let a = c .before .before .before .args in
+    sym (closes-last (a .input .now) (a .end) (omega (arith, c .before .if2 .left)))
 
 pub closing-spec : {M : Type 1} → statement M
 closing-spec = tie.close (tie.spec returns add-if2 returns-2 shared-slice-read-result returns-3)

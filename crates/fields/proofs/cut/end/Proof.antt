@@ -22,13 +22,18 @@ shared-slice-read-if1 : tie.Need-shared-slice-read-if1 Inv-loop μ-loop
 shared-slice-read-if1 c = omega arith
 
 returns : tie.Need-returns Inv-loop μ-loop
-returns c = omega (arith, end-lf (c .before .before .before .before .args .input .now) (c .before .before .before .loop .i) (omega arith) (c .if1 .taken))
+returns c =
+    let at-loop = c .before .before .before in
+    omega (arith, end-lf (at-loop .before .args .input .now) (at-loop .loop .i) (omega arith) (c .if1 .taken))
 
 shared-slice-read-if2 : tie.Need-shared-slice-read-if2 Inv-loop μ-loop
 shared-slice-read-if2 c = omega arith
 
 returns-2 : tie.Need-returns-2 Inv-loop μ-loop
-returns-2 c = omega (arith, end-semicolon (c .before .before .before .before .before .before .args .input .now) (c .before .before .before .before .before .loop .i) (omega arith) (c .before .before .if1 .left) (c .if2 .taken))
+returns-2 c =
+    let at-if1 = c .before .before in
+    let at-loop = at-if1 .before .before .before in
+    omega (arith, end-semicolon (at-loop .before .args .input .now) (at-loop .loop .i) (omega arith) (at-if1 .if1 .left) (c .if2 .taken))
 
 add-i : tie.Need-add-i Inv-loop μ-loop
 add-i c = omega arith
@@ -37,7 +42,10 @@ loop-less : tie.Need-loop-less Inv-loop μ-loop
 loop-less c = omega arith
 
 loop-again : tie.Need-loop-again Inv-loop μ-loop
-loop-again c = omega (arith, end-more (c .before .before .before .before .before .before .args .input .now) (c .before .before .before .before .before .loop .i) (omega arith) (c .before .before .if1 .left) (c .if2 .left))
+loop-again c =
+    let at-if1 = c .before .before in
+    let at-loop = at-if1 .before .before .before in
+    omega (arith, end-more (at-loop .before .args .input .now) (at-loop .loop .i) (omega arith) (at-if1 .if1 .left) (c .if2 .left))
 
 returns-3 : tie.Need-returns-3 Inv-loop μ-loop
 returns-3 c = omega (arith, end-none (c .before .before .args .input .now) (c .before .loop .i) (omega arith))

@@ -23,10 +23,18 @@ cast-b : tie.Need-cast-b Inv-loop μ-loop
 cast-b c = omega (arith, (c .shared-slice-known .given) (c .before .before .loop .i))
 
 returns : tie.Need-returns Inv-loop μ-loop
-returns c = digits-refused (c .before .before .before .before .args .f .now) (digits-low (c .before .before .before .before .args .f .now) (c .before .before .before .loop .n) (c .before .before .before .loop .i) ((c .before .before .before .loop .inv .2)) (omega arith) (omega (arith, c .if1 .taken)))
+returns c =
+    let at-loop = c .before .before .before in
+    let a = at-loop .before .args in
+    let l = at-loop .loop in
+    digits-refused (a .f .now) (digits-low (a .f .now) (l .n) (l .i) (l .inv .2) (omega arith) (omega (arith, c .if1 .taken)))
 
 returns-2 : tie.Need-returns-2 Inv-loop μ-loop
-returns-2 c = digits-refused (c .before .before .before .before .before .args .f .now) (digits-high (c .before .before .before .before .before .args .f .now) (c .before .before .before .before .loop .n) (c .before .before .before .before .loop .i) ((c .before .before .before .before .loop .inv .2)) (omega arith) (omega (arith, c .if2 .taken)) (omega (arith, c .if2 .taken)))
+returns-2 c =
+    let at-loop = c .before .before .before .before in
+    let a = at-loop .before .args in
+    let l = at-loop .loop in
+    digits-refused (a .f .now) (digits-high (a .f .now) (l .n) (l .i) (l .inv .2) (omega arith) (omega (arith, c .if2 .taken)) (omega (arith, c .if2 .taken)))
 
 mul-n : tie.Need-mul-n Inv-loop μ-loop
 mul-n c = omega (arith, power-small (c .before .before .before .before .loop .i) (omega arith))
@@ -41,7 +49,11 @@ loop-less : tie.Need-loop-less Inv-loop μ-loop
 loop-less c = omega arith
 
 loop-again : tie.Need-loop-again Inv-loop μ-loop
-loop-again c = (omega arith, digit-below (c .before .before .before .before .loop .n) (c .before .before .before .before .loop .i) (getD (c .before .before .before .before .before .args .f .now) (c .before .before .before .before .loop .i) 0 - 48) ((c .before .before .before .before .loop .inv .1)) (omega arith), digits-more (c .before .before .before .before .before .args .f .now) (c .before .before .before .before .loop .n) (c .before .before .before .before .loop .i) ((c .before .before .before .before .loop .inv .2)) (omega arith) (omega (arith, c .before .if1 .left)) (omega (arith, c .if2 .left)))
+loop-again c =
+    let at-loop = c .before .before .before .before in
+    let a = at-loop .before .args in
+    let l = at-loop .loop in
+    (omega arith, digit-below (l .n) (l .i) (getD (a .f .now) (l .i) 0 - 48) (l .inv .1) (omega arith), digits-more (a .f .now) (l .n) (l .i) (l .inv .2) (omega arith) (omega (arith, c .before .if1 .left)) (omega (arith, c .if2 .left)))
 
 returns-3 : tie.Need-returns-3 Inv-loop μ-loop
 returns-3 c = digits-done (c .before .before .args .f .now) (c .before .loop .n) (c .before .loop .i) ((c .before .loop .inv .2)) (omega arith)

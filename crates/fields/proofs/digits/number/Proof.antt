@@ -1,4 +1,4 @@
--- `number` meets its contract: each way out is one case of the field's form. Assumes nothing.
+-- `number` meets its contract: each way out is one case of what a number is. Assumes nothing.
 use mathlib.Core.Path.{sym, _∙_}
 use native.Mathlib.Omega.{arith}
 use borrow.Author.Needs.{needs}
@@ -22,7 +22,11 @@ digits-requires : tie.Need-digits-requires
 digits-requires c κs = search needs
 
 returns-4 : tie.Need-returns-4
-returns-4 c = (c .digits .ensures) ∙ number-digits (c .before .before .before .before .before .before .args .f .now) (sym (c .before .before .leading-zero .ensures) ∙ (c .before .if3 .left)) (c .before .before .before .before .if1 .left) (omega (arith, c .before .before .before .if2 .left))
+returns-4 c =
+    let at-leading-zero = c .before .before in
+    let at-if2 = at-leading-zero .before in
+    let at-if1 = at-if2 .before in
+    (c .digits .ensures) ∙ number-digits (at-if1 .before .before .args .f .now) (sym (at-leading-zero .leading-zero .ensures) ∙ (c .before .if3 .left)) (at-if1 .if1 .left) (omega (arith, at-if2 .if2 .left))
 
 pub number-spec : {M : Type 1} → statement M
 number-spec =

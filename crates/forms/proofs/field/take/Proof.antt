@@ -12,7 +12,7 @@ use Rattle.forms.proofs.field.take.Statement.{statement}
 use Rattle.forms.proofs.field.take.Tie as tie
 
 returns : tie.Need-returns
-returns c = taken-missing (c .before .before .args .input .now) (c .before .before .args .at) (c .before .before .args .i) (c .before .before .args .k) (c .before .before .args .highest) 0 (c .before .before .args .at) (c .if1 .taken)
+returns c = taken-missing (c .if1 .taken)
 
 end-requires : tie.Need-end-requires
 end-requires c κs = search needs
@@ -24,7 +24,9 @@ part-meant-start : tie.Need-part-meant-start
 part-meant-start c = search needs
 
 part-meant-end : tie.Need-part-meant-end
-part-meant-end c = end-le (c .before .before .before .args .input .now) (c .before .before .before .args .at) (c .end .result) (c .before .if1 .left) (c .end .ensures)
+part-meant-end c =
+    let a = c .before .before .before .args in
+    end-le (a .input .now) (a .at) (c .end .result) (c .before .if1 .left) (c .end .ensures)
 
 meant-requires : tie.Need-meant-requires
 meant-requires c κs = search needs
@@ -37,16 +39,25 @@ enum-told c = search needs
 
 returns-2 : tie.Need-returns-2
 returns-2 c =
-    let field = ap (λ (f : List ℕ). number (asMeant (c .before .before .before .before .before .before .before .args .i) f)) (part-piece (c .before .before .before .before .before .before .before .args .input .now) (c .before .before .before .before .before .before .before .args .at) (c .before .before .before .before .end .result) (c .before .before .before .before .before .if1 .left) (c .before .before .before .before .end .ensures)) in
-    taken-faulty (c .before .before .before .before .before .before .before .args .input .now) (c .before .before .before .before .before .before .before .args .at) (c .before .before .before .before .before .before .before .args .i) (c .before .before .before .before .before .before .before .args .k) (c .before .before .before .before .before .before .before .args .highest) 0 (c .before .before .before .before .end .result) _ _ (c .before .before .before .before .before .if1 .left) (sym field ∙ sym (c .before .before .meant .ensures) ∙ ap valueOf ((c .enum-told .given .1)))
+    let at-meant = c .before .before in
+    let at-end = at-meant .before .before in
+    let at-if1 = at-end .before in
+    let a = at-if1 .before .before .args in
+    let field = ap (λ (f : List ℕ). number (asMeant (a .i) f)) (part-piece (a .input .now) (a .at) (at-end .end .result) (at-if1 .if1 .left) (at-end .end .ensures)) in
+    taken-faulty (at-if1 .if1 .left) (sym field ∙ sym (at-meant .meant .ensures) ∙ ap valueOf (c .enum-told .given .1))
 
 outside-requires : tie.Need-outside-requires
 outside-requires c κs = search needs
 
 returns-3 : tie.Need-returns-3
 returns-3 c =
-    let field = ap (λ (f : List ℕ). number (asMeant (c .before .before .before .before .before .before .before .before .before .args .i) f)) (part-piece (c .before .before .before .before .before .before .before .before .before .args .input .now) (c .before .before .before .before .before .before .before .before .before .args .at) (c .before .before .before .before .before .before .end .result) (c .before .before .before .before .before .before .before .if1 .left) (c .before .before .before .before .before .before .end .ensures)) in
-    taken-number (c .before .before .before .before .before .before .before .before .before .args .input .now) (c .before .before .before .before .before .before .before .before .before .args .at) (c .before .before .before .before .before .before .before .before .before .args .i) (c .before .before .before .before .before .before .before .before .before .args .k) (c .before .before .before .before .before .before .before .before .before .args .highest) (c .outside .result) _ (c .before .before .before .before .before .before .end .result) (c .before .before .before .before .before .before .before .if1 .left) (sym field ∙ sym (c .before .before .before .before .meant .ensures) ∙ ap valueOf ((c .before .before .v .given .1))) (c .outside .ensures) (c .before .before .before .before .before .before .end .ensures)
+    let at-v = c .before .before in
+    let at-meant = at-v .before .before in
+    let at-end = at-meant .before .before in
+    let at-if1 = at-end .before in
+    let a = at-if1 .before .before .args in
+    let field = ap (λ (f : List ℕ). number (asMeant (a .i) f)) (part-piece (a .input .now) (a .at) (at-end .end .result) (at-if1 .if1 .left) (at-end .end .ensures)) in
+    taken-number (at-if1 .if1 .left) (sym field ∙ sym (at-meant .meant .ensures) ∙ ap valueOf (at-v .v .given .1)) (c .outside .ensures) (at-end .end .ensures)
 
 pub take-spec : {M : Type 1} → statement M
 take-spec =

@@ -13,10 +13,16 @@ too-many-requires : tie.Need-too-many-requires
 too-many-requires c κs = search needs
 
 returns-2 : tie.Need-returns-2
-returns-2 c = simp (le-ltb (c .before .before .before .args .highest) (c .before .before .before .args .v) (omega (arith, c .before .before .if1 .left)), sym (c .before .too-many .ensures), (c .if2 .taken))
+returns-2 c =
+    let at-if1 = c .before .before in
+    let a = at-if1 .before .args in
+    simp (le-ltb (a .highest) (a .v) (omega (arith, at-if1 .if1 .left)), sym (c .before .too-many .ensures), (c .if2 .taken))
 
 returns-3 : tie.Need-returns-3
-returns-3 c = simp (le-ltb (c .before .before .before .args .highest) (c .before .before .before .args .v) (omega (arith, c .before .before .if1 .left)), sym (c .before .too-many .ensures), (c .if2 .left))
+returns-3 c =
+    let at-if1 = c .before .before in
+    let a = at-if1 .before .args in
+    simp (le-ltb (a .highest) (a .v) (omega (arith, at-if1 .if1 .left)), sym (c .before .too-many .ensures), (c .if2 .left))
 
 pub level-fault-spec : {M : Type 1} → statement M
 level-fault-spec = tie.close (tie.spec returns too-many-requires returns-2 returns-3)

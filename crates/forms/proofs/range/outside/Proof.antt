@@ -14,25 +14,38 @@ returns : tie.Need-returns
 returns c = (c .count-fault .ensures) ∙ sym (outside-4 (c .before .before .args .v) (c .before .before .args .k) (c .before .before .args .highest) (c .before .before .args .i) (c .before .if1 .taken))
 
 returns-2 : tie.Need-returns-2
-returns-2 c = sym (outside-5 (c .before .before .before .args .v) (c .before .before .before .args .k) (c .before .before .before .args .highest) (c .before .before .before .args .i) (c .before .if2 .taken) ∙ simp (lt-ltb 21 (c .before .before .before .args .v) (omega (arith, c .if3 .taken))))
+returns-2 c =
+    let a = c .before .before .before .args in
+    sym (outside-5 (a .v) (a .k) (a .highest) (a .i) (c .before .if2 .taken) ∙ simp (lt-ltb 21 (a .v) (omega (arith, c .if3 .taken))))
 
 returns-3 : tie.Need-returns-3
-returns-3 c = sym (outside-5 (c .before .before .before .args .v) (c .before .before .before .args .k) (c .before .before .before .args .highest) (c .before .before .before .args .i) (c .before .if2 .taken) ∙ simp (le-ltb 21 (c .before .before .before .args .v) (omega (arith, c .if3 .left))))
+returns-3 c =
+    let a = c .before .before .before .args in
+    sym (outside-5 (a .v) (a .k) (a .highest) (a .i) (c .before .if2 .taken) ∙ simp (le-ltb 21 (a .v) (omega (arith, c .if3 .left))))
 
 count-fault-requires-2 : tie.Need-count-fault-requires-2
 count-fault-requires-2 c κs = search needs
 
 returns-4 : tie.Need-returns-4
-returns-4 c = (c .count-fault2 .ensures) ∙ sym (outside-6 (c .before .before .before .before .args .v) (c .before .before .before .before .args .k) (c .before .before .before .before .args .highest) (c .before .before .before .before .args .i) (c .before .if4 .taken))
+returns-4 c =
+    let a = c .before .before .before .before .args in
+    (c .count-fault2 .ensures) ∙ sym (outside-6 (a .v) (a .k) (a .highest) (a .i) (c .before .if4 .taken))
 
 level-fault-requires : tie.Need-level-fault-requires
 level-fault-requires c κs = search needs
 
 returns-5 : tie.Need-returns-5
-returns-5 c = (c .level-fault .ensures) ∙ sym (outside-7 (c .before .before .before .before .before .args .v) (c .before .before .before .before .before .args .k) (c .before .before .before .before .before .args .highest) (c .before .before .before .before .before .args .i) (c .before .if5 .taken))
+returns-5 c =
+    let start = c .before .before .before .before .before in
+    let a = start .args in
+    (c .level-fault .ensures) ∙ sym (outside-7 (a .v) (a .k) (a .highest) (a .i) (c .before .if5 .taken))
 
 returns-6 : tie.Need-returns-6
-returns-6 c = sym (outside-none (c .before .before .before .before .args .v) (c .before .before .before .before .args .k) (c .before .before .before .before .args .highest) (c .before .before .before .before .args .i) (c .before .before .before .if1 .left) (c .before .before .if2 .left) (c .before .if4 .left) (c .if5 .left))
+returns-6 c =
+    let at-if2 = c .before .before in
+    let at-if1 = at-if2 .before in
+    let a = at-if1 .before .args in
+    sym (outside-none (a .v) (a .k) (a .highest) (a .i) (at-if1 .if1 .left) (at-if2 .if2 .left) (c .before .if4 .left) (c .if5 .left))
 
 pub outside-spec : {M : Type 1} → statement M
 outside-spec =
