@@ -16,11 +16,11 @@ use Rattle.tree.specs.Laws.{Sound, Lawful}
 use Rattle.tree.proofs.RoundTrip.{round-trips}
 use Rattle.tree.proofs.Family.{families}
 use Rattle.tree.specs.Words as words
-use Rattle.leaves.specs.Leaves.{Leaf}
-use Rattle.leaves.specs.Laws.{nth}
+use Rattle.leaves.specs.Leaves.{Leaf, nth}
 use Rattle.leaves.proofs.Span.{quotient}
 use Rattle.adaption.specs.Adaption.{every, same, child, parent, family}
-use Rattle.adaption.specs.Laws.{elementOf, Proper, Relatives}
+use Rattle.leaves.specs.Cells.{elementOf, Proper}
+use Rattle.adaption.specs.Laws.{Relatives}
 use Rattle.adaption.proofs.Family.{every-all, same-is}
 
 module _ {E : Type 0} (S : Shape E) (W : Lawful S) where

@@ -10,10 +10,10 @@ use native.Mathlib.Omega.{arith}
 use lib.Dec.{leb, ltb, eqb}
 use lib.ListN.{length}
 use borrow.Author.Tests.{ltb-true, leb-true, eqb-true, lt-ltb, le-leb, eq-eqb}
-use Rattle.leaves.specs.Leaves.{Leaf, leaf}
-use Rattle.leaves.specs.Laws.{nth}
+use Rattle.leaves.specs.Leaves.{Leaf, nth, leaf}
 use Rattle.adaption.specs.Laws.{Merging}
-use Rattle.adaption.specs.Adaption.{mark, every, same, child, parent, family, merging, eldest}
+use Rattle.marks.specs.Marks.{mark}
+use Rattle.adaption.specs.Adaption.{every, same, child, parent, family, merging, eldest}
 
 -- ---- tests
 pub every-all : (k : ℕ) (test : ℕ → Bool) → every k test ≡ true → (t : ℕ) → t < k → test t ≡ true

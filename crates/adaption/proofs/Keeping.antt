@@ -11,10 +11,10 @@ use native.Mathlib.Omega.{arith}
 use lib.ListN.{length, drop, take, length-append, drop-of-length-le, List·getD-append}
 use lib.Seq.{take-suc, length-take-le, take-at, drop-at, getD-append-add, split-at}
 use Rattle.paper.proofs.Scan.{rows-length}
-use Rattle.leaves.specs.Leaves.{Leaf, leaf}
-use Rattle.leaves.specs.Laws.{nth}
-use Rattle.leaves.proofs.Listed.{getD-rows}
-use Rattle.adaption.specs.Adaption.{mark, child, parent, childrenOf, merging, joined, gives, adapted}
+use Rattle.leaves.specs.Leaves.{Leaf, nth, leaf}
+use Rattle.leaves.proofs.Columns.{getD-rows}
+use Rattle.marks.specs.Marks.{mark}
+use Rattle.adaption.specs.Adaption.{child, parent, childrenOf, merging, joined, gives, adapted}
 use Rattle.adaption.specs.Laws.{Merging, Marked}
 use Rattle.adaption.proofs.Family.{merging-is}
 use Rattle.adaption.proofs.Turns.{from, Clear, from-end, from-refined, from-merged, from-kept, clear-refined, clear-merged, clear-kept}

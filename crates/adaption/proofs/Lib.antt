@@ -1,13 +1,12 @@
 pub mod Family
 pub mod Gives
 pub mod Turns
-pub mod Sound
 pub mod Width
 pub mod Beginning
 pub mod Passing
 pub mod Fitting
 pub mod Siblings
-pub mod Marked
+pub mod Readiness
 pub mod Adapting
 pub mod Covering
 pub mod Validity

@@ -9,14 +9,27 @@ use native.Mathlib.Omega.{arith}
 use lib.ListN.{length, length-append}
 use borrow.Author.Tests.{eq-eqb, ne-eqb}
 use Rattle.paper.proofs.Scan.{rows-length}
-use Rattle.leaves.specs.Leaves.{Leaf, leaf}
-use Rattle.leaves.specs.Laws.{nth}
+use Rattle.leaves.specs.Leaves.{Leaf, leaf, nth, Columns, front}
+use Rattle.leaves.proofs.Columns.{columns-same}
+use Rattle.columns.specs.Laying.{stretch, stored, Room}
+use Rattle.columns.proofs.Stretches as stretches
+use Rattle.columns.proofs.Stretches.{front-more}
 use Rattle.adaption.specs.Adaption.{joined, gives, adapted}
-use Rattle.adaption.specs.Pass.{turn, gain, stride, newLevel, newPosition, made}
-use Rattle.leaves.specs.Stretch.{stretch, Ran, Passed}
-use Rattle.leaves.proofs.Stretches as stretches
-use Rattle.leaves.proofs.Stretches.{passed-more}
+use Rattle.adaption.specs.Inner.{turn, gain, stride, newLevel, newPosition, made}
 use Rattle.adaption.proofs.Turns.{from, from-end, Clear, Turn, turn-at}
+
+-- ---- what a turn makes
+made-length : (n : ℕ) (vs : List Leaf) (ms : List ℕ) (i : ℕ) → length (made n vs ms i) ≡ gain n (turn n vs ms i)
+made-length n vs ms i =
+    rows-length (λ t. leaf (nth vs i .root) (newLevel (turn n vs ms i) (nth vs i .level)) (newPosition n (turn n vs ms i) (nth vs i .position) + t)) 0 (gain n (turn n vs ms i))
+
+-- what the code stores is what the turn makes
+made-is : (n : ℕ) (vs : List Leaf) (ms : List ℕ) (i t l p k : ℕ) (v : Leaf) → t ≡ turn n vs ms i → v ≡ nth vs i
+    → l ≡ newLevel t (v .level) → p ≡ newPosition n t (v .position) → k ≡ gain n t → stretch (v .root) l p k ≡ made n vs ms i
+made-is n vs ms i t l p k v is-turn is-leaf level position count =
+    ap (λ (x : ℕ). stretch (v .root) x p k) level
+    ∙ ap₂ (stretch (v .root) (newLevel t (v .level))) position count
+    ∙ ap₂ (λ (w : Leaf) (x : ℕ). stretch (w .root) (newLevel x (w .level)) (newPosition n x (w .position)) (gain n x)) is-leaf is-turn
 
 -- ---- one turn's numbers
 by-number : {A : Type 0} (t : ℕ) → (t ≡ 1 → A) → (t ≡ 2 → A) → ((t ≡ 1 → ⊥) → (t ≡ 2 → ⊥) → A) → A
@@ -91,7 +104,7 @@ module _ (n : ℕ) (positive : 0 < n) where
             ap length (a .split ∙ ap (λ (us : List Leaf). a .done ++ us) (here .makes))
             ∙ length-append (a .done) (made n vs ms i ++ from n positive vs ms (i + stride n (turn n vs ms i)))
             ∙ ap (λ (k : ℕ). length (a .done) + k) (length-append (made n vs ms i) (from n positive vs ms (i + stride n (turn n vs ms i))))
-            ∙ omega (arith, a .counted, rows-length (λ t. leaf (nth vs i .root) (newLevel (turn n vs ms i) (nth vs i .level)) (newPosition n (turn n vs ms i) (nth vs i .position) + t)) 0 (gain n (turn n vs ms i)))
+            ∙ omega (arith, a .counted, made-length n vs ms i)
 
         pub along-room : size + gain n (turn n vs ms i) ≤ length (adapted n vs ms)
         along-room = omega (arith, longer)
@@ -101,7 +114,7 @@ module _ (n : ℕ) (positive : 0 < n) where
             record {
               done = a .done ++ made n vs ms i;
               split = a .split ∙ ap (λ (us : List Leaf). a .done ++ us) (here .makes) ∙ sym (append-assoc (a .done) (made n vs ms i) _);
-              counted = ap₂ (λ (x y : ℕ). x + y) (a .counted) (sym (rows-length _ 0 (gain n (turn n vs ms i)))) ∙ sym (length-append (a .done) (made n vs ms i));
+              counted = ap₂ (λ (x y : ℕ). x + y) (a .counted) (sym (made-length n vs ms i)) ∙ sym (length-append (a .done) (made n vs ms i));
               bounded = omega (arith, a .bounded, gain-le (turn n vs ms i), add-mul i (stride n (turn n vs ms i)) n);
               clear = here .onward;
               upto = here .within;
@@ -119,65 +132,74 @@ module _ (n : ℕ) (positive : 0 < n) where
         omega (arith, a .bounded, mul-le-mul-right n reached, narrow)
 
 -- ---- the columns on the way
-module _ (n : ℕ) (positive : 0 < n) (vs : List Leaf) (ms : List ℕ) (roots levels positions : List ℕ) where
-  pub record Underway (i size : ℕ) (rs ls ps : List ℕ) : Type 0 where
+room-less : (m : Columns) (d e : ℕ) → d ≤ e → Room e m → Room d m
+room-less m d e less room =
+    record { in-roots = omega (arith, less, room .in-roots); in-levels = omega (arith, less, room .in-levels); in-positions = omega (arith, less, room .in-positions) }
+
+room-same : (m m′ : Columns) (e : ℕ) → length (m′ .roots) ≡ length (m .roots) → length (m′ .levels) ≡ length (m .levels)
+    → length (m′ .positions) ≡ length (m .positions) → Room e m → Room e m′
+room-same m m′ e r l p room =
+    record { in-roots = omega (arith, r, room .in-roots); in-levels = omega (arith, l, room .in-levels); in-positions = omega (arith, p, room .in-positions) }
+
+module _ (n : ℕ) (positive : 0 < n) (vs : List Leaf) (ms : List ℕ) (m : Columns) where
+  -- size leaves are made, and stand at the front of m′
+  pub record Underway (i size : ℕ) (m′ : Columns) : Type 0 where
     pub along : Along n positive vs ms i size
-    pub filled : Passed (along .done) roots levels positions rs ls ps
+    pub filled : m′ ≡ front (along .done) m
 
-  pub underway-none : Underway 0 0 roots levels positions
+  pub underway-none : Underway 0 0 m
   unfolding along-none
-  underway-none = record { along = along-none n positive vs ms; filled = record { in-roots = refl; in-levels = refl; in-positions = refl } }
+  underway-none = record { along = along-none n positive vs ms; filled = columns-same m (front [] m) refl refl refl }
 
-  module _ (i size : ℕ) (rs ls ps : List ℕ) (u : Underway i size rs ls ps) where
-    pub underway-all : length vs ≤ i → Passed (adapted n vs ms) roots levels positions rs ls ps
-    underway-all past =
-        subst⁻¹ (λ (us : List Leaf). Passed us roots levels positions rs ls ps) (along-all n positive vs ms i size (u .along) past) (u .filled)
+  module _ (i size : ℕ) (m′ : Columns) (u : Underway i size m′) where
+    pub underway-all : length vs ≤ i → m′ ≡ front (adapted n vs ms) m
+    underway-all past = u .filled ∙ ap (λ (us : List Leaf). front us m) (sym (along-all n positive vs ms i size (u .along) past))
 
-    -- the columns stay as long as they were
-    made-few : (l : List ℕ) → length (adapted n vs ms) ≤ length l → length (u .along .done) ≤ length l
-    made-few l room = omega (arith, room, ap length (u .along .split), length-append (u .along .done) (from n positive vs ms i))
+    module _ (room : Room (length (adapted n vs ms)) m) where
+      made-few : Room (length (u .along .done)) m
+      made-few =
+          room-less m (length (u .along .done)) (length (adapted n vs ms))
+          (omega (arith, ap length (u .along .split), length-append (u .along .done) (from n positive vs ms i))) room
 
-    module _ (room : length (adapted n vs ms) ≤ length roots) where
-      pub roots-stay : length rs ≡ length roots
-      roots-stay = stretches.roots-stay (u .along .done) (u .filled) (made-few roots room)
+      -- the columns stay as long as they were
+      pub roots-stay : length (m′ .roots) ≡ length (m .roots)
+      roots-stay = stretches.roots-stay (u .along .done) m m′ (u .filled) made-few
 
-      pub levels-stay : length roots ≡ length levels → length ls ≡ length levels
-      levels-stay long = stretches.levels-stay (u .along .done) (u .filled) (made-few levels (omega (arith, room, long)))
+      pub levels-stay : length (m′ .levels) ≡ length (m .levels)
+      levels-stay = stretches.levels-stay (u .along .done) m m′ (u .filled) made-few
 
-      pub positions-stay : length roots ≡ length positions → length ps ≡ length positions
-      positions-stay long = stretches.positions-stay (u .along .done) (u .filled) (made-few positions (omega (arith, room, long)))
+      pub positions-stay : length (m′ .positions) ≡ length (m .positions)
+      positions-stay = stretches.positions-stay (u .along .done) m m′ (u .filled) made-few
 
-    module _ (inside : i < length vs) (room : length (adapted n vs ms) ≤ length roots) (l-long : length roots ≡ length levels) (p-long : length roots ≡ length positions) where
-      fits : (l : List ℕ) → length roots ≡ length l → length (u .along .done) + length (made n vs ms i) ≤ length l
-      fits l long =
-          omega (arith, along-room n positive vs ms i size (u .along) inside, u .along .counted, room, long, rows-length (λ t. leaf (nth vs i .root) (newLevel (turn n vs ms i) (nth vs i .level)) (newPosition n (turn n vs ms i) (nth vs i .position) + t)) 0 (gain n (turn n vs ms i)))
+      module _ (inside : i < length vs) where
+        -- there is room for what the turn makes
+        pub room-for : (t : ℕ) → t ≡ turn n vs ms i → Room (size + gain n t) m′
+        room-for t is-turn =
+            room-same m m′ (size + gain n t) roots-stay levels-stay positions-stay
+            (room-less m (size + gain n t) (length (adapted n vs ms))
+            (omega (arith, along-room n positive vs ms i size (u .along) inside, ap (gain n) is-turn)) room)
 
-      pub underway-more : {rs′ ls′ ps′ : List ℕ} → Ran size (made n vs ms i) rs ls ps rs′ ls′ ps′
-          → Underway (i + stride n (turn n vs ms i)) (size + gain n (turn n vs ms i)) rs′ ls′ ps′
-      unfolding along-more
-      underway-more {rs′} {ls′} {ps′} f =
-          record {
-            along = along-more n positive vs ms i size (u .along) inside;
-            filled = passed-more (u .along .done) (u .filled) (made n vs ms i) size (u .along .counted) (fits roots refl) (fits levels l-long) (fits positions p-long) f;
-          }
+        room-after : Room (length (u .along .done) + length (made n vs ms i)) m
+        room-after =
+            room-less m (length (u .along .done) + length (made n vs ms i)) (length (adapted n vs ms))
+            (omega (arith, along-room n positive vs ms i size (u .along) inside, u .along .counted, made-length n vs ms i)) room
 
-      pub room-for : (t g : ℕ) → t ≡ turn n vs ms i → g ≡ gain n t → (size + g ≤ length rs) × ((size + g ≤ length ls) × (size + g ≤ length ps))
-      room-for t g is-turn gained =
-          let all = along-room n positive vs ms i size (u .along) inside in
-          let same : g ≡ gain n (turn n vs ms i) = gained ∙ ap (gain n) is-turn in
-          (omega (arith, all, same, room, roots-stay room), (omega (arith, all, same, room, l-long, levels-stay room l-long), omega (arith, all, same, room, p-long, positions-stay room p-long)))
+        underway-more : (m″ : Columns) → m″ ≡ stored size (made n vs ms i) m′
+            → Underway (i + stride n (turn n vs ms i)) (size + gain n (turn n vs ms i)) m″
+        unfolding along-more
+        underway-more m″ f =
+            record {
+              along = along-more n positive vs ms i size (u .along) inside;
+              filled = f
+                  ∙ ap₂ (λ (k : ℕ) (x : Columns). stored k (made n vs ms i) x) (u .along .counted) (u .filled)
+                  ∙ front-more (u .along .done) (made n vs ms i) m room-after;
+            }
 
-      pub underway-next : {rs′ ls′ ps′ : List ℕ} (t k g : ℕ) (us : List Leaf) → t ≡ turn n vs ms i → k ≡ stride n t → g ≡ gain n t → us ≡ made n vs ms i
-          → Ran size us rs ls ps rs′ ls′ ps′ → Underway (i + k) (size + g) rs′ ls′ ps′
-      underway-next {rs′} {ls′} {ps′} t k g us is-turn taken gained run f =
-          subst⁻¹ (λ (x : ℕ). Underway (i + x) (size + g) rs′ ls′ ps′) (taken ∙ ap (stride n) is-turn)
-          (subst⁻¹ (λ (x : ℕ). Underway (i + stride n (turn n vs ms i)) (size + x) rs′ ls′ ps′) (gained ∙ ap (gain n) is-turn)
-          (underway-more (subst (λ (x : List Leaf). Ran size x rs ls ps rs′ ls′ ps′) run f)))
-
--- ---- what the code has run is what the turn makes
-pub made-is : (n : ℕ) (vs : List Leaf) (ms : List ℕ) (i t l p k : ℕ) (v : Leaf) → t ≡ turn n vs ms i → v ≡ nth vs i
-    → l ≡ newLevel t (v .level) → p ≡ newPosition n t (v .position) → k ≡ gain n t → stretch (v .root) l p k ≡ made n vs ms i
-made-is n vs ms i t l p k v is-turn is-leaf level position count =
-    ap (λ (x : ℕ). stretch (v .root) x p k) level
-    ∙ ap₂ (stretch (v .root) (newLevel t (v .level))) position count
-    ∙ ap₂ (λ (w : Leaf) (x : ℕ). stretch (w .root) (newLevel x (w .level)) (newPosition n x (w .position)) (gain n x)) is-leaf is-turn
+        -- the same by the code's own numbers: the turn t at the leaf v takes k leaves and makes g, the first of level l at position p
+        pub underway-next : (m″ : Columns) (v : Leaf) (t l p k g : ℕ) → v ≡ nth vs i → t ≡ turn n vs ms i → l ≡ newLevel t (v .level)
+            → p ≡ newPosition n t (v .position) → k ≡ stride n t → g ≡ gain n t → m″ ≡ stored size (stretch (v .root) l p (gain n t)) m′
+            → Underway (i + k) (size + g) m″
+        underway-next m″ v t l p k g is-leaf is-turn level position taken gained f =
+            subst⁻¹ (λ (x : ℕ). Underway (i + x) (size + g) m″) (taken ∙ ap (stride n) is-turn)
+            (subst⁻¹ (λ (x : ℕ). Underway (i + stride n (turn n vs ms i)) (size + x) m″) (gained ∙ ap (gain n) is-turn)
+            (underway-more m″ (f ∙ ap (λ (us : List Leaf). stored size us m′) (made-is n vs ms i t l p (gain n t) v is-turn is-leaf level position refl))))

@@ -6,8 +6,7 @@ use Prim.Native.Nat.{ℕ, zero, suc, _+_, _-_, _*_, _/_, _%_, _^_, _≤_, _<_}
 use native.Mathlib.Nat.{add-zero, mul-comm, mul-lt-mul-of-pos-right, mul-le-mul-right, lt-of-mul-lt-mul-right, mul-div-cancel, div-add-mod', pow-suc}
 use native.Mathlib.Omega.{arith}
 use lib.ListN.{length}
-use Rattle.leaves.specs.Leaves.{Leaf, leaf, Spot, spotAt, span, startOf, endOf, Covers}
-use Rattle.leaves.specs.Laws.{nth}
+use Rattle.leaves.specs.Leaves.{Leaf, nth, leaf, Spot, spotAt, span, startOf, endOf, Covers}
 use Rattle.leaves.proofs.Span.{more-mul, power-pos, fill, end-within}
 use Rattle.leaves.proofs.Entries.{level-at, position-at, follows}
 use Rattle.adaption.specs.Adaption.{child, parent}

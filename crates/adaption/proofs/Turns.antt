@@ -10,11 +10,11 @@ use native.Mathlib.Decide.{decLt, ℕ-discrete}
 use native.Mathlib.Omega.{arith}
 use lib.ListN.{length}
 use borrow.Author.Tests.{eq-eqb, ne-eqb}
-use Rattle.leaves.specs.Leaves.{Leaf, leaf}
-use Rattle.leaves.specs.Laws.{nth}
-use Rattle.adaption.specs.Adaption.{mark, joined, childrenOf, parent, merging, gives}
-use Rattle.adaption.specs.Pass.{turn, gain, stride, newLevel, newPosition, made}
-use Rattle.leaves.specs.Stretch.{stretch}
+use Rattle.leaves.specs.Leaves.{Leaf, nth, leaf}
+use Rattle.marks.specs.Marks.{mark}
+use Rattle.adaption.specs.Adaption.{joined, childrenOf, parent, merging, gives}
+use Rattle.adaption.specs.Inner.{turn, gain, stride, newLevel, newPosition, made}
+use Rattle.columns.specs.Laying.{stretch}
 use Rattle.adaption.specs.Laws.{Merging}
 use Rattle.adaption.proofs.Family.{merging-is, is-merging, alone, not-so}
 use Rattle.adaption.proofs.Gives.{gives-refined, gives-younger, gives-merged, gives-kept}

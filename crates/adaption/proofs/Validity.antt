@@ -11,10 +11,10 @@ use native.Mathlib.Omega.{arith}
 use lib.ListN.{length, drop, drop-of-length-le}
 use lib.Seq.{drop-cons}
 use Rattle.paper.specs.Outcome.{rows}
-use Rattle.leaves.specs.Leaves.{Leaf, leaf, Spot, spotAt, endOf, Covers, Valid}
-use Rattle.leaves.specs.Laws.{nth}
+use Rattle.leaves.specs.Leaves.{Leaf, nth, leaf, Spot, spotAt, endOf, Covers, Valid}
 use Rattle.leaves.proofs.Entries.{level-at}
-use Rattle.adaption.specs.Adaption.{mark, child, parent, childrenOf, merging, joined, gives, adapted}
+use Rattle.marks.specs.Marks.{mark}
+use Rattle.adaption.specs.Adaption.{child, parent, childrenOf, merging, joined, gives, adapted}
 use Rattle.adaption.specs.Laws.{Merging, Refinable}
 use Rattle.adaption.proofs.Covering.{refine-covers, merge-covers}
 use Rattle.adaption.proofs.Turns.{from, Clear, from-end, from-refined, from-merged, from-kept, clear-refined, clear-merged, clear-kept, by-turn}

@@ -1,6 +1,5 @@
 -- Document 01, "Leaf lists": "Adaption: one mark a leaf, 0 keep, 1 refine, 2 merge." n is the number of children. Definitions only.
 --
---   mark ms i        the mark of leaf i
 --   child, parent    of a leaf, by its position: `Positions` of `tree` ties them to the elements
 --   childrenOf v     "A refined leaf gives its eight children."
 --   family vs j      the n leaves from number j on "are a family": the children of one leaf, in order
@@ -17,13 +16,10 @@ use mathlib.Core.Bool.{Bool, true, cond, _&&_}
 use mathlib.Core.List.{List, [], _∷_, _++_}
 use Prim.Native.Nat.{ℕ, zero, suc, _+_, _-_, _*_, _/_, _%_}
 use lib.Dec.{leb, ltb, eqb}
-use lib.ListN.{length, getD}
+use lib.ListN.{length}
 use Rattle.paper.specs.Outcome.{rows}
-use Rattle.leaves.specs.Leaves.{Leaf, leaf}
-use Rattle.leaves.specs.Laws.{nth}
-
-abbrev pub mark : List ℕ → ℕ → ℕ
-mark ms i = getD ms i 0
+use Rattle.leaves.specs.Leaves.{Leaf, leaf, nth}
+use Rattle.marks.specs.Marks.{mark}
 
 -- whether the test passes for every number below k
 unfoldable pub every : ℕ → (ℕ → Bool) → Bool

@@ -4,29 +4,28 @@
 --   OnePass vs ms     which leaves are refined, which merge, which are kept, and what each gives; `adapted` is what they give, in order
 --   Refinable vs ms   no leaf of the highest level is marked 1
 --   Marked            the marks of N leaves are m for the k leaves from number i on, and 0 for the others
---   Begun, Step     an accepted uniform start, an accepted adaption, and the list that it gives
+--   Begun, Step       an accepted uniform start, an accepted adaption of the list vs: the leaves that it gives
 --   Reached K s ws    the list ws is reached from a uniform start by s accepted adaptions, one after the other
 --   Promised          all of it
---   elementOf S v     the element of a shape that a leaf is
---   Relatives S            a leaf's children and its parent are the element's, and leaves that are a family here are one there: "yes exactly when
+--   Relatives S       a leaf's children and its parent are the element's, and leaves that are a family here are one there: "yes exactly when
 --                     the given elements are all children of one parent, in order"
 --
 -- Assumes nothing.
 use mathlib.Core.Path.{_≡_}
 use mathlib.Core.Logic.{_↔_}
-use mathlib.Core.Bool.{Bool, true}
+use mathlib.Core.Bool.{true}
 use mathlib.Core.List.{List, [], _∷_}
-use Prim.Native.Nat.{ℕ, zero, suc, _+_, _^_, _≤_, _<_}
+use Prim.Native.Nat.{ℕ, zero, suc, _+_, _≤_, _<_}
 use lib.ListN.{length}
 use Rattle.paper.specs.Outcome.{accepted, rows}
 use Rattle.tree.specs.Shape.{Shape}
 use Rattle.tree.specs.Words as words
-use Rattle.leaves.specs.Leaves.{Leaf, rootsOf, levelsOf, positionsOf, Valid}
-use Rattle.leaves.specs.Laws.{nth}
-use Rattle.leaves.specs.Leaves as leaves
-use Rattle.leaves.specs.Calls as calls
-use Rattle.adaption.specs.Adaption.{mark, child, parent, childrenOf, family, merging, gives, adapted}
-use Rattle.adaption.specs.Calls.{adaption}
+use Rattle.leaves.specs.Leaves.{Leaf, nth, Columns, columnsOf, Valid}
+use Rattle.leaves.specs.Calls.{uniform}
+use Rattle.leaves.specs.Cells.{elementOf, Proper}
+use Rattle.marks.specs.Marks.{mark}
+use Rattle.adaption.specs.Adaption.{child, parent, childrenOf, family, merging, gives, adapted}
+use Rattle.adaption.specs.Calls.{adapt}
 
 pub record Marked (ms : List ℕ) (m i k N : ℕ) : Type 0 where
   pub there : (j : ℕ) → j < N → i ≤ j → j < i + k → mark ms j ≡ m
@@ -53,19 +52,13 @@ module _ (n : ℕ) where
 
     pub record Begun (K : ℕ) (ws : List Leaf) : Type 0 where
       pub level : ℕ
-      pub equal : Bool
-      pub room : ℕ
-      pub size : ℕ
-      pub accepts : calls.uniform n L K level equal room ≡ accepted size
-      pub result : ws ≡ leaves.uniform n L K level
+      pub lent : Columns
+      pub accepts : uniform n L K level lent ≡ accepted ws
 
     pub record Step (K : ℕ) (vs ws : List Leaf) : Type 0 where
       pub marks : List ℕ
-      pub equal : Bool
-      pub room : ℕ
-      pub size : ℕ
-      pub accepts : adaption n L K (rootsOf vs) (levelsOf vs) (positionsOf vs) marks equal room ≡ accepted size
-      pub result : ws ≡ adapted n vs marks
+      pub lent : Columns
+      pub accepts : adapt n L K (columnsOf vs) marks lent ≡ accepted ws
 
     unfoldable pub Reached : ℕ → ℕ → List Leaf → Type 0
     Reached K zero ws = Begun K ws
@@ -80,16 +73,8 @@ module _ (n : ℕ) where
           → Marked ms′ 2 i n (length (adapted n vs ms)) → adapted n (adapted n vs ms) ms′ ≡ vs
 
 module _ {E : Type 0} (S : Shape E) where
-  abbrev pub elementOf : Leaf → E
-  elementOf v = words.elementAt S (v .level) (v .position)
-
-  -- a leaf of the shape's levels and positions
-  pub record Proper (v : Leaf) : Type 0 where
-    pub level : v .level ≤ S .highest
-    pub position : v .position < S .children ^ v .level
-
   pub record Relatives : Type 0 where
-    pub children : (v : Leaf) (t : ℕ) → t < S .children → elementOf (child (S .children) v t) ≡ S .child (elementOf v) t
-    pub parents : (v : Leaf) → Proper v → 0 < v .level → elementOf (parent (S .children) v) ≡ S .parent (elementOf v)
-    pub families : (vs : List Leaf) (j : ℕ) → ((i : ℕ) → i < length vs → Proper (nth vs i)) → family (S .children) vs j ≡ true
-        → words.family S (rows (λ t. elementOf (nth vs (j + t))) 0 (S .children)) ≡ true
+    pub children : (v : Leaf) (t : ℕ) → t < S .children → elementOf S (child (S .children) v t) ≡ S .child (elementOf S v) t
+    pub parents : (v : Leaf) → Proper S v → 0 < v .level → elementOf S (parent (S .children) v) ≡ S .parent (elementOf S v)
+    pub families : (vs : List Leaf) (j : ℕ) → ((i : ℕ) → i < length vs → Proper S (nth vs i)) → family (S .children) vs j ≡ true
+        → words.family S (rows (λ t. elementOf S (nth vs (j + t))) 0 (S .children)) ≡ true

@@ -1,4 +1,4 @@
 pub mod Adaption
 pub mod Calls
-pub mod Pass
 pub mod Laws
+pub mod Inner

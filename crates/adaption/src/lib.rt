@@ -2,9 +2,9 @@
 // highest level 21; the engine behind it takes the bits of a child number and the highest level as ordinary numbers.
 use paper::NumberAnswer;
 use paper::PassAnswer;
+ghost use Rattle.leaves.specs.Leaves.{columns};
 ghost use Rattle.adaption.specs.Calls.{Adapted};
 
-mod marks;
 mod pass;
 mod run;
 mod turn;
@@ -20,7 +20,10 @@ pub fn adapt(
     new_levels: &mut [u8],
     new_positions: &mut [u64],
 ) -> NumberAnswer
-    ensures { λ r. ⌜ Adapted k r (now (roots .entry)) (now (levels .entry)) (now (positions .entry)) (now (marks .entry)) (now («new_roots» .entry)) (now («new_levels» .entry)) (now («new_positions» .entry)) (now («new_roots» .exit)) (now («new_levels» .exit)) (now («new_positions» .exit)) ⌝ }
+    ensures { λ r. ⌜ Adapted k r
+        (columns (now (roots .entry)) (now (levels .entry)) (now (positions .entry))) (now (marks .entry))
+        (columns (now («new_roots» .entry)) (now («new_levels» .entry)) (now («new_positions» .entry)))
+        (columns (now («new_roots» .exit)) (now («new_levels» .exit)) (now («new_positions» .exit))) ⌝ }
 {
     if leaves::out_of_range(k) {
         return NumberAnswer::Refused(17, 0);
@@ -34,19 +37,19 @@ pub fn adapt(
     if let PassAnswer::Refused(number, place) = leaves::check_list(k, roots, levels, positions) {
         return NumberAnswer::Refused(number, place);
     }
-    let fault = marks::fault(21, levels, marks);
+    let fault = marks::check(tree::HIGHEST, levels, marks);
     if fault.number != 0 {
         return NumberAnswer::Refused(fault.number, fault.place);
     }
-    let size = pass::count(3, roots, levels, positions, marks);
-    if 1048576 < size {
+    let size = pass::count(leaves::BITS, roots, levels, positions, marks);
+    if leaves::LIMIT < size {
         return NumberAnswer::Refused(15, 0);
     }
     if new_roots.len() < size {
         return NumberAnswer::Refused(14, size as u64);
     }
     pass::write(
-        3,
+        leaves::BITS,
         roots,
         levels,
         positions,

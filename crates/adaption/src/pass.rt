@@ -2,12 +2,12 @@
 use crate::run;
 use crate::turn;
 ghost use mathlib.Core.Path.{_≡_};
-ghost use Prim.Native.Nat.{_^_, _≤_, _<_};
+ghost use Prim.Native.Nat.{_^_, _<_};
 ghost use lib.ListN.{length};
-ghost use Rattle.leaves.specs.Leaves.{leaves};
+ghost use Rattle.leaves.specs.Leaves.{columns, leaves, front};
+ghost use Rattle.columns.specs.Laying.{Room};
 ghost use Rattle.adaption.specs.Adaption.{adapted};
-ghost use Rattle.leaves.specs.Stretch.{Passed};
-ghost use Rattle.adaption.specs.Pass.{Ready};
+ghost use Rattle.adaption.specs.Inner.{Ready};
 
 // How many leaves the result has.
 pub(crate) fn count(
@@ -17,19 +17,15 @@ pub(crate) fn count(
     positions: &[u64],
     marks: &[u8],
 ) -> usize
-    requires { ⌜ (bits < 8) × ((length (now roots) ≤ 1048576) × ((length (now roots) ≡ length (now levels)) × ((length (now roots) ≡ length (now positions)) × ((length (now roots) ≡ length (now marks)) × Ready (2 ^ bits) (leaves (now roots) (now levels) (now positions)) (now marks))))) ⌝ }
-    ensures { λ r. ⌜ r ≡ length (adapted (2 ^ bits) (leaves (now (roots .entry)) (now (levels .entry)) (now (positions .entry))) (now (marks .entry))) ⌝ }
+    requires { ⌜ bits < 8 ⌝ }
+    requires { ⌜ Ready (2 ^ bits) (columns (now roots) (now levels) (now positions)) (now marks) ⌝ }
+    ensures { λ r. ⌜ r ≡ length (adapted (2 ^ bits)
+        (leaves (columns (now (roots .entry)) (now (levels .entry)) (now (positions .entry)))) (now (marks .entry))) ⌝ }
 {
     let mut i = 0;
     let mut size = 0;
     while i < roots.len() {
-        // A mark is a turn, but for a 2 where no family begins.
-        let mut t = marks[i];
-        if t == 2 {
-            if !turn::begins(bits, roots, levels, positions, marks, i) {
-                t = 0;
-            }
-        }
+        let t = turn::at(bits, roots, levels, positions, marks, i);
         size += turn::made(bits, t);
         i += turn::taken(bits, t);
     }
@@ -47,19 +43,18 @@ pub(crate) fn write(
     new_levels: &mut [u8],
     new_positions: &mut [u64],
 )
-    requires { ⌜ (bits < 8) × ((length (now roots) ≤ 1048576) × ((length (adapted (2 ^ bits) (leaves (now roots) (now levels) (now positions)) (now marks)) ≤ length (now «new_roots»)) × ((length (now «new_roots») ≡ length (now «new_levels»)) × ((length (now «new_roots») ≡ length (now «new_positions»)) × ((length (now roots) ≡ length (now levels)) × ((length (now roots) ≡ length (now positions)) × ((length (now roots) ≡ length (now marks)) × Ready (2 ^ bits) (leaves (now roots) (now levels) (now positions)) (now marks)))))))) ⌝ }
-    ensures { λ _. ⌜ Passed (adapted (2 ^ bits) (leaves (now (roots .entry)) (now (levels .entry)) (now (positions .entry))) (now (marks .entry))) (now («new_roots» .entry)) (now («new_levels» .entry)) (now («new_positions» .entry)) (now («new_roots» .exit)) (now («new_levels» .exit)) (now («new_positions» .exit)) ⌝ }
+    requires { ⌜ bits < 8 ⌝ }
+    requires { ⌜ Ready (2 ^ bits) (columns (now roots) (now levels) (now positions)) (now marks) ⌝ }
+    requires { ⌜ Room (length (adapted (2 ^ bits) (leaves (columns (now roots) (now levels) (now positions))) (now marks)))
+        (columns (now «new_roots») (now «new_levels») (now «new_positions»)) ⌝ }
+    ensures { λ _. ⌜ columns (now («new_roots» .exit)) (now («new_levels» .exit)) (now («new_positions» .exit))
+        ≡ front (adapted (2 ^ bits) (leaves (columns (now (roots .entry)) (now (levels .entry)) (now (positions .entry)))) (now (marks .entry)))
+        (columns (now («new_roots» .entry)) (now («new_levels» .entry)) (now («new_positions» .entry))) ⌝ }
 {
     let mut i = 0;
     let mut size = 0;
     while i < roots.len() {
-        // A mark is a turn, but for a 2 where no family begins.
-        let mut t = marks[i];
-        if t == 2 {
-            if !turn::begins(bits, roots, levels, positions, marks, i) {
-                t = 0;
-            }
-        }
+        let t = turn::at(bits, roots, levels, positions, marks, i);
         let level = turn::level(t, levels[i]);
         let position = turn::position(bits, t, positions[i]);
         run::lay(

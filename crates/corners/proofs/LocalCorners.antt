@@ -18,7 +18,7 @@ use Rattle.prism.specs.Points as prisms
 use Rattle.prism.proofs.Laws.{grids}
 use Rattle.corners.specs.declared.work.Local.{Local}
 use Rattle.corners.specs.Laws.{InsideRoot}
-use Rattle.corners.specs.Steps.{CornerRow, localOf}
+use Rattle.corners.specs.Inner.{CornerRow, localOf}
 
 -- what the checks on an element leave room for
 pub record Room (e : Prism) (h : ℕ) : Type 0 where
@@ -50,11 +50,11 @@ room-at e h same sound = subst⁻¹ (Room e) same (room e sound)
 
 -- none or one side further, in each coordinate: still within the edge
 pub record Reaches (e : Prism) (h s i : ℕ) : Type 0 where
-  pub step-x : s % 2 * h ≤ 2 ^ 21
-  pub step-y : s / 2 * h ≤ 2 ^ 21
+  pub step-x : s / 2 * h ≤ 2 ^ 21
+  pub step-y : s % 2 * h ≤ 2 ^ 21
   pub step-z : i / 3 * h ≤ 2 ^ 21
-  pub to-x : e .x + s % 2 * h ≤ 2 ^ 21
-  pub to-y : e .y + s / 2 * h ≤ 2 ^ 21
+  pub to-x : e .x + s / 2 * h ≤ 2 ^ 21
+  pub to-y : e .y + s % 2 * h ≤ 2 ^ 21
   pub to-z : e .z + i / 3 * h ≤ 2 ^ 21
 
 one-side : (n h a : ℕ) → n ≤ 1 → a + h ≤ 2 ^ 21 → a + n * h ≤ 2 ^ 21
@@ -63,8 +63,8 @@ one-side n h a once inside = omega (arith, mul-le-mul-right h once)
 pub reaches : (e : Prism) (h s i : ℕ) → h ≡ side 21 (e .level) → s ≤ 3 → Sound prism e → i < 6 → Reaches e h s i
 reaches e h s i same narrow sound small =
     let r = room-at e h same sound in
-    let far-x = one-side (s % 2) h (e .x) (omega arith) (r .room-x) in
-    let far-y = one-side (s / 2) h (e .y) (omega arith) (omega (arith, r .room-x, r .below)) in
+    let far-x = one-side (s / 2) h (e .x) (omega arith) (r .room-x) in
+    let far-y = one-side (s % 2) h (e .y) (omega arith) (omega (arith, r .room-x, r .below)) in
     let far-z = one-side (i / 3) h (e .z) (omega arith) (r .room-z) in
     record { step-x = omega arith; step-y = omega arith; step-z = omega arith; to-x = far-x; to-y = far-y; to-z = far-z }
 
@@ -74,10 +74,10 @@ planAt t k h x y = getD (cornersBy t h x y) k (point 0 0)
 
 -- the two rows of three that the code reads
 abbrev rows : List (List ℕ)
-rows = (0 ∷ 1 ∷ 3 ∷ []) ∷ (0 ∷ 2 ∷ 3 ∷ []) ∷ []
+rows = (0 ∷ 2 ∷ 3 ∷ []) ∷ (0 ∷ 1 ∷ 3 ∷ []) ∷ []
 
 placed-by : (t k : ℕ) → t < 2 → k < 3 → (h x y : ℕ)
-    → planAt t k h x y ≡ point (x + getD (getD rows t []) k 0 % 2 * h) (y + getD (getD rows t []) k 0 / 2 * h)
+    → planAt t k h x y ≡ point (x + getD (getD rows t []) k 0 / 2 * h) (y + getD (getD rows t []) k 0 % 2 * h)
 placed-by zero zero a b h x y = ap₂ point (omega arith) (omega arith)
 placed-by zero (suc zero) a b h x y = ap₂ point (omega arith) (omega arith)
 placed-by zero (suc (suc zero)) a b h x y = ap₂ point (omega arith) (omega arith)
@@ -104,9 +104,9 @@ corner-row t k a b = record { narrow = narrow-by t k a b; placed = placed-by t k
 
 -- ---- as a local corner
 pub found : (e : Prism) (i h s : ℕ) → h ≡ side 21 (e .level) → CornerRow (e .kind) (i % 3) s
-    → record { x = e .x + s % 2 * h; y = e .y + s / 2 * h; z = e .z + i / 3 * h } ≡ localOf (prisms.corner 21 e i)
+    → record { x = e .x + s / 2 * h; y = e .y + s % 2 * h; z = e .z + i / 3 * h } ≡ localOf (prisms.corner 21 e i)
 found e i h s same row =
-    let at-h : (k : ℕ) → point (e .x + s % 2 * k) (e .y + s / 2 * k) ≡ planAt (e .kind) (i % 3) k (e .x) (e .y) =
+    let at-h : (k : ℕ) → point (e .x + s / 2 * k) (e .y + s % 2 * k) ≡ planAt (e .kind) (i % 3) k (e .x) (e .y) =
     λ k. sym (row .placed k (e .x) (e .y)) in
     let lifted : ℕ → Point → Local = λ k p. record { x = p .x; y = p .y; z = e .z + i / 3 * k } in
     ap (lifted h) (at-h h) ∙ ap (λ (k : ℕ). lifted k (planAt (e .kind) (i % 3) k (e .x) (e .y))) same

@@ -10,7 +10,7 @@ use lib.Signed.{mag}
 use mir.Syntax.{w64}
 use mir.Val.{SFits, toZ, ofZ}
 use mir.ValLaws.{toZ-ofZ, toZ-pos}
-use Rattle.corners.specs.Steps.{mix, Heights, blend}
+use Rattle.corners.specs.Inner.{mix, Heights, blend}
 use Rattle.corners.proofs.Differences.{Is, add, mul, sub, mul-right, bound}
 use Rattle.corners.proofs.Offsets.{Offset, offset, blend-bound}
 

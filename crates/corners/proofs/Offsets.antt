@@ -12,7 +12,7 @@ use Rattle.corners.specs.declared.work.Axis.{Axis}
 use Rattle.corners.specs.declared.work.Local.{Local}
 use Rattle.corners.specs.CornerPoints.{within, q}
 use Rattle.corners.specs.Laws.{InsideRoot}
-use Rattle.corners.specs.Steps.{along, Near, mix, Heights, blend, cornerOf}
+use Rattle.corners.specs.Inner.{along, Near, mix, Heights, blend, cornerOf}
 use Rattle.corners.proofs.Differences.{Is, add, mul, sub, mul-right, rename, bound}
 
 -- z is from -k to k: moved up by k it is `up`

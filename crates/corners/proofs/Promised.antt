@@ -16,7 +16,7 @@ use Rattle.corners.specs.declared.Root.{Root}
 use Rattle.corners.specs.declared.Point.{Point}
 use Rattle.corners.specs.CornerPoints.{corner, rootWithin, q, coordinate, pointAt, cornerPoint}
 use Rattle.corners.specs.Laws.{Exact, Promised, InsideRoot, Small, AsDue, pointed}
-use Rattle.corners.specs.Steps.{xs, ys, zs, localOf, cornerOf}
+use Rattle.corners.specs.Inner.{xs, ys, zs, localOf, cornerOf}
 use Rattle.corners.proofs.Offsets.{axis-bound}
 use Rattle.corners.proofs.Roots.{near-xs, near-ys, near-zs}
 use Rattle.corners.proofs.LocalCorners.{corner-inside}

@@ -6,7 +6,7 @@ use lib.IntN.{natAbs}
 use Rattle.corners.specs.declared.Corner.{Corner}
 use Rattle.corners.specs.declared.Root.{Root}
 use Rattle.corners.specs.CornerPoints.{cornerWithin, rootWithin}
-use Rattle.corners.specs.Steps.{Near, xs, ys, zs}
+use Rattle.corners.specs.Inner.{Near, xs, ys, zs}
 use Rattle.corners.proofs.Conjunctions.{parts}
 use Rattle.corners.proofs.Offsets.{near}
 

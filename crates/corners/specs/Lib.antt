@@ -1,3 +1,3 @@
 pub mod CornerPoints
-pub mod Steps
+pub mod Inner
 pub mod Laws

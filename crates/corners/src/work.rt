@@ -15,7 +15,7 @@ ghost use Rattle.prism.specs.Elements.{CORNERS, prism};
 ghost use Rattle.prism.specs.Points as prisms;
 ghost use Rattle.corners.specs.CornerPoints.{within, allWithin, rootWithin, q, coordinate, pointAt};
 ghost use Rattle.corners.specs.Laws.{InsideRoot};
-ghost use Rattle.corners.specs.Steps.{along, Near, Heights, mix, blend, xs, ys, zs, CornerRow, localOf, cornerOf};
+ghost use Rattle.corners.specs.Inner.{along, Near, Heights, mix, blend, xs, ys, zs, CornerRow, localOf, cornerOf};
 
 // One coordinate of a root's six corners.
 pub(crate) struct Axis {
@@ -119,9 +119,9 @@ impl Root {
     }
 }
 
-// The corners of a triangle in sides from the anchor, x + 2·y: two rows of three by type. A table, since a branch would wait for the
-// type, which is known last.
-const CORNER: [[u8; 3]; 2] = [[0, 1, 3], [0, 2, 3]];
+// The corners of a triangle, a row for each type. An entry's digits: sides along x, sides along y from the anchor. A table, since a
+// branch would wait for the type, which is known last.
+const CORNER: [[u8; 3]; 2] = [[0b0_0, 0b1_0, 0b1_1], [0b0_0, 0b0_1, 0b1_1]];
 
 fn sides(kind: u8, number: u8) -> u8
     requires { ⌜ (kind < 2) × (number < triangles.CORNERS) ⌝ }
@@ -139,8 +139,8 @@ pub(crate) fn local_of(e: Prism, corner: u8) -> Local
 {
     let h = tree::side(e.level);
     let s = sides(e.kind, corner % Triangle::CORNERS) as u32;
-    let x = e.x + s % 2 * h;
-    let y = e.y + s / 2 * h;
+    let x = e.x + s / 2 * h;
+    let y = e.y + s % 2 * h;
     let z = e.z + (corner / Triangle::CORNERS) as u32 * h;
     Local { x, y, z }
 }

@@ -72,7 +72,7 @@ fn uniform() {
     let mut levels: [u8; 8] = [0; 8];
     let mut positions: [u64; 8] = [0; 8];
     let mut bytes: [u8; 8] = [0; 8];
-    leaves::uniform(1, 1, &mut roots, &mut levels, &mut positions);
+    columns::uniform(1, 1, &mut roots, &mut levels, &mut positions);
     io::write_all(1, b"uniform at level 1:");
     say_file(
         writer::write(1, &roots, &levels, &positions, &mut bytes),
@@ -92,7 +92,7 @@ fn refined() {
     let mut levels2: [u8; 15] = [0; 15];
     let mut positions2: [u64; 15] = [0; 15];
     let mut bytes: [u8; 12] = [0; 12];
-    leaves::uniform(1, 1, &mut roots, &mut levels, &mut positions);
+    columns::uniform(1, 1, &mut roots, &mut levels, &mut positions);
     adaption::adapt(
         1,
         &roots,

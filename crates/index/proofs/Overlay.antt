@@ -14,9 +14,10 @@ use borrow.Author.Tests.{le-leb, lt-leb}
 use Rattle.tree.specs.Shape.{Shape}
 use Rattle.tree.specs.Anchors.{side, offGrid}
 use Rattle.tree.specs.Laws.{Sound, Lawful}
+use Rattle.tree.specs.Ancestors.{up}
 use Rattle.tree.proofs.Digits.{power-bits}
 use Rattle.tree.proofs.Anchor.{side-pos, grid-units, units-child, child-rounded, child-bit}
-use Rattle.index.specs.Index.{bit, climbed, ancestor, types, group, overlaid}
+use Rattle.index.specs.Index.{bit, ancestor, types, group, overlaid}
 
 -- the tuple a with s put into its empty place j, of the places below L
 pub record Grown (L j s : ℕ) (a grown : ℕ → ℕ) : Type 0 where
@@ -70,16 +71,16 @@ module _ (L l x i : ℕ) (room : l < L) (small : i < 2) (on : offGrid L l x ≡ 
 
 -- ---- the types of the ancestors
 module _ {E : Type 0} (S : Shape E) (W : Lawful S) (kind : E → ℕ) where
-  climbed-parent : (k : ℕ) (e : E) → climbed S (suc k) e ≡ climbed S k (S .parent e)
-  unfolding climbed
-  climbed-parent zero e = refl
-  climbed-parent (suc k) e = ap (S .parent) (climbed-parent k e)
+  up-parent : (k : ℕ) (e : E) → up S (suc k) e ≡ up S k (S .parent e)
+  unfolding up
+  up-parent zero e = refl
+  up-parent (suc k) e = ap (S .parent) (up-parent k e)
 
   -- an ancestor of the parent
   ancestor-parent : (l : ℕ) (e : E) → 0 < S .level e → l < S .level e → ancestor S l e ≡ ancestor S l (S .parent e)
   ancestor-parent l e deep above =
       let more : S .level e - l ≡ suc (S .level (S .parent e) - l) = omega (arith, W .parent-level e deep) in
-      ap (λ (k : ℕ). climbed S k e) more ∙ climbed-parent (S .level (S .parent e) - l) e
+      ap (λ (k : ℕ). up S k e) more ∙ up-parent (S .level (S .parent e) - l) e
 
   types-deep : (e : E) (j : ℕ) → S .level e < S .highest - j → types S kind e j ≡ 0
   unfolding types
@@ -91,7 +92,7 @@ module _ {E : Type 0} (S : Shape E) (W : Lawful S) (kind : E → ℕ) where
 
   module _ (e : E) (i : ℕ) (ok : Sound S e) (room : S .level e < S .highest) (small : i < S .children) where
     pub types-grown : Grown (S .highest) (S .highest - suc (S .level e)) (kind (S .child e i)) (types S kind e) (types S kind (S .child e i))
-    unfolding climbed
+    unfolding up
     types-grown =
         let H = S .highest in
         let c = S .child e i in
@@ -99,7 +100,7 @@ module _ {E : Type 0} (S : Shape E) (W : Lawful S) (kind : E → ℕ) where
         let none : S .level c - (H - (H - suc (S .level e))) ≡ 0 = omega arith in
         record {
           empty = types-deep e (H - suc (S .level e)) (omega arith);
-          here = types-at c (H - suc (S .level e)) (omega arith) ∙ ap (λ (k : ℕ). kind (climbed S k c)) none;
+          here = types-at c (H - suc (S .level e)) (omega arith) ∙ ap (λ (k : ℕ). kind (up S k c)) none;
           under = λ k below. types-deep c k (omega arith) ∙ sym (types-deep e k (omega arith));
           over = λ k above inside.
               types-at c k (omega arith)

@@ -18,6 +18,7 @@ use Prim.Native.Nat.{ℕ, zero, suc, _+_, _-_, _*_, _/_, _%_, _^_}
 use lib.Dec.{leb}
 use lib.ListN.{length}
 use Rattle.tree.specs.Shape.{Shape}
+use Rattle.tree.specs.Ancestors.{up}
 use Rattle.line.specs.declared.Line.{Line}
 use Rattle.triangle.specs.declared.Triangle.{Triangle}
 use Rattle.triangle.specs.Elements.{triangleTo}
@@ -28,13 +29,8 @@ abbrev pub bit : ℕ → ℕ → ℕ
 bit j x = x / 2 ^ j % 2
 
 module _ {E : Type 0} (S : Shape E) where
-  -- k levels up
-  unfoldable pub climbed : ℕ → E → E
-  climbed zero e = e
-  climbed (suc k) e = S .parent (climbed k e)
-
   abbrev pub ancestor : ℕ → E → E
-  ancestor l e = climbed (S .level e - l) e
+  ancestor l e = up S (S .level e - l) e
 
   unfoldable pub types : (E → ℕ) → E → ℕ → ℕ
   types kind e j = cond (leb (S .highest - j) (S .level e)) (kind (ancestor (S .highest - j) e)) 0

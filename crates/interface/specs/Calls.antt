@@ -16,8 +16,13 @@ use Rattle.leaves.specs.Leaves.{CHILDREN, Columns, front}
 use Rattle.leaves.specs.Calls.{uniform}
 use Rattle.adaption.specs.Calls.{adapt}
 use Rattle.shares.specs.Calls.{shares}
+use Rattle.format.specs.Reading.{Grid}
+use Rattle.writer.specs.Calls.{write}
+use Rattle.reader.specs.Calls.{read, sizeOf}
+use Rattle.orders.specs.Calls.{answer}
 use Rattle.results.specs.declared.NumberResult.{NumberResult}
-use Rattle.results.specs.Results.{numberResult, passResult}
+use Rattle.results.specs.declared.GridResult.{GridResult}
+use Rattle.results.specs.Results.{numberResult, passResult, gridResult}
 
 -- over C the result is its own reading
 abbrev itself : {A : Type 0} → A → A
@@ -35,3 +40,13 @@ AdaptResult k r cs marks m m′ = Fulfils itself counted front (adapt CHILDREN H
 abbrev pub SharesResult : ℕ → ℕ → ℕ → Columns → List ℕ → List ℕ → List ℕ → Type 0
 SharesResult k p r cs weights m m′ =
     Fulfils itself (λ o. passResult (mapped (λ (boundaries : List ℕ). tt) o)) written (shares CHILDREN HIGHEST k p cs weights m) r m m′
+
+abbrev pub WriteResult : ℕ → NumberResult → Columns → List ℕ → List ℕ → Type 0
+WriteResult k r cs m m′ = Fulfils itself counted written (write CHILDREN HIGHEST k cs m) r m m′
+
+abbrev pub ReadResult : GridResult → List ℕ → Columns → Columns → Type 0
+ReadResult r bytes m m′ =
+    Fulfils itself (λ o. gridResult (mapped sizeOf o)) (λ (g : Grid). front (g .leaves)) (read CHILDREN HIGHEST bytes m) r m m′
+
+abbrev pub OrderResult : NumberResult → List ℕ → List ℕ → List ℕ → Type 0
+OrderResult r input m m′ = Fulfils itself counted written (answer input (length m)) r m m′

@@ -2,39 +2,29 @@
 --
 --   "A smallest cell is a prism of level 21. It lies in itself and in each prism reached from it by taking parents"
 --
---   up S k e          the element reached from e by taking parents k times
---   LiesIn S e f      e lies in f: f is reached from e by taking parents, at most as often as there is one
 --   elementOf S v     the element that a leaf is
 --   Proper S v        the leaf is of a level and at a position that the shape has
---   InLeaf S v r e    the smallest cell e of root r lies in the leaf v
+--   InLeaf S v r e    the element e of root r lies in the leaf v
 --   OneLeaf           it lies in exactly one leaf of a list
 --   CellsOnce S K vs  each smallest cell of each of the K roots does
---   CellLaws S            all valid lists are so, at the shape's number of children and highest level; and a smallest cell lies in a leaf exactly
---                     when its position, divided by the cells that the leaf holds, is the leaf's
+--   CellLaws S        all valid lists are so, at the shape's number of children and highest level; and an element of any level lies in a leaf
+--                     exactly when its position, divided by how many of its level the leaf holds, is the leaf's
 --
--- Assumes nothing.
+-- Not here: one element in another (`LiesIn` of `tree/specs/Ancestors.antt`). Assumes nothing.
 use mathlib.Core.Path.{_≡_}
 use mathlib.Core.Logic.{_↔_}
 use mathlib.Core.List.{List}
-use Prim.Native.Nat.{ℕ, zero, suc, _^_, _≤_, _<_}
+use Prim.Native.Nat.{ℕ, _^_, _≤_, _<_}
 use lib.ListN.{length}
 use Rattle.paper.specs.Exactly.{ExactlyOne}
 use Rattle.tree.specs.Shape.{Shape}
 use Rattle.tree.specs.Laws.{Sound}
+use Rattle.tree.specs.Ancestors.{LiesIn}
 use Rattle.tree.specs.Words as words
 use Rattle.leaves.specs.Leaves.{Leaf, nth, Valid}
 use Rattle.leaves.specs.Laws.{Holds}
 
 module _ {E : Type 0} (S : Shape E) where
-  unfoldable pub up : ℕ → E → E
-  up zero e = e
-  up (suc k) e = S .parent (up k e)
-
-  pub record LiesIn (e f : E) : Type 0 where
-    pub times : ℕ
-    pub parents : times ≤ S .level e
-    pub reached : up times e ≡ f
-
   abbrev pub elementOf : Leaf → E
   elementOf v = words.elementAt S (v .level) (v .position)
 
@@ -44,7 +34,7 @@ module _ {E : Type 0} (S : Shape E) where
 
   pub record InLeaf (v : Leaf) (r : ℕ) (e : E) : Type 0 where
     pub root : v .root ≡ r
-    pub lies : LiesIn e (elementOf v)
+    pub lies : LiesIn S e (elementOf v)
 
   abbrev pub OneLeaf : List Leaf → ℕ → E → Type 0
   OneLeaf vs r e = ExactlyOne (length vs) (λ j. InLeaf (nth vs j) r e)
@@ -54,5 +44,5 @@ module _ {E : Type 0} (S : Shape E) where
 
   pub record CellLaws : Type 0 where
     pub once : (K : ℕ) (vs : List Leaf) → Valid (S .children) (S .highest) K vs → CellsOnce K vs
-    pub by-position : (v : Leaf) (r : ℕ) (e : E) → Sound S e → S .level e ≡ S .highest → v .level ≤ S .highest
-        → v .position < S .children ^ v .level → InLeaf v r e ↔ Holds (S .children) (S .highest) v r (words.position S e)
+    pub by-position : (v : Leaf) (r : ℕ) (e : E) → Proper v → Sound S e → v .level ≤ S .level e
+        → InLeaf v r e ↔ Holds (S .children) (S .level e) v r (words.position S e)

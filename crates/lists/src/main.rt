@@ -30,7 +30,7 @@ fn needed(k: u16, level: u8) {
     io::write_all(1, b" level ");
     io::print_decimal(1, level as u64);
     io::write_all(1, b": ");
-    say(leaves::uniform(k, level, &mut roots, &mut levels, &mut positions));
+    say(columns::uniform(k, level, &mut roots, &mut levels, &mut positions));
 }
 
 // One root at level 1, leaf 2 refined, and all leaves marked 2 next.
@@ -39,7 +39,7 @@ fn refined_and_merged() {
     let mut levels: [u8; 8] = [0; 8];
     let mut positions: [u64; 8] = [0; 8];
     io::write_all(1, b"uniform at level 1: ");
-    say(leaves::uniform(1, 1, &mut roots, &mut levels, &mut positions));
+    say(columns::uniform(1, 1, &mut roots, &mut levels, &mut positions));
     let marks: [u8; 8] = [0, 0, 1, 0, 0, 0, 0, 0];
     let mut roots2: [u16; 15] = [0; 15];
     let mut levels2: [u8; 15] = [0; 15];

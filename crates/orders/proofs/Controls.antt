@@ -5,9 +5,9 @@ use mathlib.Core.List.{List, [], _∷_}
 use Prim.Native.Nat.{ℕ}
 use Rattle.paper.specs.Outcome.{refused}
 use Rattle.shares.specs.Shares.{total, largest}
-use Rattle.orders.specs.Fields.{fields, ended, allDigits, valueFrom}
-use Rattle.orders.specs.Orders.{decided}
-use Rattle.orders.specs.Text.{decimalIn, joined}
+use Rattle.fields.specs.Fields.{fields, ended, allDigits, valueFrom}
+use Rattle.forms.specs.Forms.{read}
+use Rattle.text.specs.Text.{decimalIn, joined}
 use Rattle.orders.specs.Calls.{output}
 
 -- `1042;7;3;1;4;3;1`
@@ -20,41 +20,41 @@ unfolding example fields ended allDigits valueFrom decimalIn joined total larges
 example-printed = refl
 
 -- `1;7;3;1;1;3;`
-above-the-highest : decided (49 ∷ 59 ∷ 55 ∷ 59 ∷ 51 ∷ 59 ∷ 49 ∷ 59 ∷ 49 ∷ 59 ∷ 51 ∷ 59 ∷ 10 ∷ []) ≡ refused 23 7
+above-the-highest : read (49 ∷ 59 ∷ 55 ∷ 59 ∷ 51 ∷ 59 ∷ 49 ∷ 59 ∷ 49 ∷ 59 ∷ 51 ∷ 59 ∷ 10 ∷ []) ≡ refused 23 7
 unfolding fields ended allDigits valueFrom
 above-the-highest = refl
 
 -- `1;7`
-first-missing : decided (49 ∷ 59 ∷ 55 ∷ 10 ∷ []) ≡ refused 23 3
+first-missing : read (49 ∷ 59 ∷ 55 ∷ 10 ∷ []) ≡ refused 23 3
 unfolding fields ended allDigits valueFrom
 first-missing = refl
 
 -- `1;2;3;0;x`, without LF
-roots-0 : decided (49 ∷ 59 ∷ 50 ∷ 59 ∷ 51 ∷ 59 ∷ 48 ∷ 59 ∷ 120 ∷ []) ≡ refused 17 4
+roots-0 : read (49 ∷ 59 ∷ 50 ∷ 59 ∷ 51 ∷ 59 ∷ 48 ∷ 59 ∷ 120 ∷ []) ≡ refused 17 4
 unfolding fields ended allDigits valueFrom
 roots-0 = refl
 
 -- `1;2;3;4;22;`, without LF
-level-22 : decided (49 ∷ 59 ∷ 50 ∷ 59 ∷ 51 ∷ 59 ∷ 52 ∷ 59 ∷ 50 ∷ 50 ∷ 59 ∷ []) ≡ refused 1 5
+level-22 : read (49 ∷ 59 ∷ 50 ∷ 59 ∷ 51 ∷ 59 ∷ 52 ∷ 59 ∷ 50 ∷ 50 ∷ 59 ∷ []) ≡ refused 1 5
 unfolding fields ended allDigits valueFrom
 level-22 = refl
 
 -- `1;2;3;1;7;1;7;`, without LF
-too-many-leaves : decided (49 ∷ 59 ∷ 50 ∷ 59 ∷ 51 ∷ 59 ∷ 49 ∷ 59 ∷ 55 ∷ 59 ∷ 49 ∷ 59 ∷ 55 ∷ 59 ∷ []) ≡ refused 15 7
+too-many-leaves : read (49 ∷ 59 ∷ 50 ∷ 59 ∷ 51 ∷ 59 ∷ 49 ∷ 59 ∷ 55 ∷ 59 ∷ 49 ∷ 59 ∷ 55 ∷ 59 ∷ []) ≡ refused 15 7
 unfolding fields ended allDigits valueFrom
 too-many-leaves = refl
 
 -- `1;7;3;1;4;3;1`, without LF
-no-line-end : decided (49 ∷ 59 ∷ 55 ∷ 59 ∷ 51 ∷ 59 ∷ 49 ∷ 59 ∷ 52 ∷ 59 ∷ 51 ∷ 59 ∷ 49 ∷ []) ≡ refused 23 8
+no-line-end : read (49 ∷ 59 ∷ 55 ∷ 59 ∷ 51 ∷ 59 ∷ 49 ∷ 59 ∷ 52 ∷ 59 ∷ 51 ∷ 59 ∷ 49 ∷ []) ≡ refused 23 8
 unfolding fields ended allDigits valueFrom
 no-line-end = refl
 
 -- `01;7;3;1;4;3;1`
-leading-zero : decided (48 ∷ 49 ∷ 59 ∷ 55 ∷ 59 ∷ 51 ∷ 59 ∷ 49 ∷ 59 ∷ 52 ∷ 59 ∷ 51 ∷ 59 ∷ 49 ∷ 10 ∷ []) ≡ refused 23 1
+leading-zero : read (48 ∷ 49 ∷ 59 ∷ 55 ∷ 59 ∷ 51 ∷ 59 ∷ 49 ∷ 59 ∷ 52 ∷ 59 ∷ 51 ∷ 59 ∷ 49 ∷ 10 ∷ []) ≡ refused 23 1
 unfolding fields ended allDigits valueFrom
 leading-zero = refl
 
 -- no input
-no-input : decided ([]) ≡ refused 23 1
+no-input : read ([]) ≡ refused 23 1
 unfolding fields ended allDigits valueFrom
 no-input = refl

@@ -1,29 +1,26 @@
 -- The call: from the input's bytes to the output's bytes in a lent buffer. Definitions only.
 --
---   output s    what the program prints on the input s
---   answered    how many bytes that is; 14 where the buffer has not so many: "no room; place = .. bytes needed"
---   Answered    the contract of the call: its answer, and the output at the front of the lent buffer, or what it held
+--   output s        what the program prints on the input s
+--   answer s room   the output, for a buffer of room bytes; 14 where it has not so many: "no room; place = .. bytes needed"
+--   Answered        the contract of the call: it answers how many bytes are printed, and they stand at the front of the lent buffer
 --
 -- A refused order is an answered call: its output is the line of refusal. The call itself refuses only 14.
 -- Assumes nothing.
-use mathlib.Core.Path.{_≡_}
 use mathlib.Core.List.{List}
 use Prim.Native.Nat.{ℕ}
-use lib.Dec.{ltb}
 use lib.ListN.{length}
-use Rattle.paper.specs.Outcome.{Outcome, accepted, refuse-when-at}
-use Rattle.paper.specs.Memory.{lent}
+use Rattle.paper.specs.Outcome.{Outcome, mapped}
+use Rattle.paper.specs.Memory.{written, roomFor, Fulfils}
 use Rattle.paper.specs.Readings.{valueOf}
 use Rattle.paper.specs.declared.NumberAnswer.{NumberAnswer}
-use Rattle.orders.specs.Orders.{decided}
-use Rattle.orders.specs.Text.{printed}
+use Rattle.forms.specs.Forms.{read}
+use Rattle.text.specs.Text.{printed}
 
 abbrev pub output : List ℕ → List ℕ
-output s = printed (decided s)
+output s = printed (read s)
 
-abbrev pub answered : List ℕ → ℕ → Outcome ℕ
-answered s room = refuse-when-at (ltb room (length (output s))) 14 (length (output s)) (accepted (length (output s)))
+abbrev pub answer : List ℕ → ℕ → Outcome (List ℕ)
+answer s room = roomFor (length (output s)) room (output s)
 
-pub record Answered (r : NumberAnswer) (s buffer buffer′ : List ℕ) : Type 0 where
-  pub answer : valueOf r ≡ answered s (length buffer)
-  pub written : buffer′ ≡ lent (valueOf r) (output s) buffer
+abbrev pub Answered : NumberAnswer → List ℕ → List ℕ → List ℕ → Type 0
+Answered r s m m′ = Fulfils valueOf (mapped length) written (answer s (length m)) r m m′

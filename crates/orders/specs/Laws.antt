@@ -1,39 +1,39 @@
 -- What is promised of the order program, as statements. Definitions only.
 --
---   SameShares f   `printed` prints the boundaries of all weights 1; on the columns of the uniform start the list's own call for shares
---                  passes with these weights, and so writes the same boundaries; they are the thesis's formula 27
---   Promised       the first 71 bytes decide the output, by the fields' form alone: seven fields of nine digits, six semicolons, LF, and one
---                  byte more; an accepted order has the numbers of its fields, and those printed are the fields
---                  themselves, byte for byte; its shares are the list's; and no output is longer than 86,212 bytes: at most 28 for each of
---                  the first line's seven entries, and 21 for each of 4,096 shares (a bound, not reached)
+--   SameShares f   `printed` prints the boundaries of all weights 1; on the columns of the uniform start, with these weights and a column
+--                  that is long enough, the list's own call for shares accepts with the same boundaries; they are the thesis's formula 27
+--   Promised       the first 71 bytes decide the output; an accepted order has the numbers of its fields, and those printed are the fields
+--                  themselves, byte for byte; its shares are the list's; and no output is longer than 86,212 bytes
 --
 -- Assumes nothing.
 use mathlib.Core.Path.{_≡_}
 use mathlib.Core.List.{List, []}
 use Prim.Native.Nat.{ℕ, _+_, _-_, _*_, _/_, _≤_}
 use lib.ListN.{length, getD, take}
-use Rattle.paper.specs.Outcome.{accepted, passed}
-use Rattle.leaves.specs.Leaves.{Leaf, uniform, rootsOf, levelsOf, positionsOf}
-use Rattle.shares.specs.Shares.{boundary}
+use Rattle.paper.specs.Outcome.{accepted}
+use Rattle.tree.specs.Anchors.{HIGHEST}
+use Rattle.leaves.specs.Leaves.{CHILDREN, Leaf, uniformList, columnsOf}
+use Rattle.shares.specs.Shares.{boundary, boundaries}
 use Rattle.shares.specs.Calls.{shares}
-use Rattle.orders.specs.declared.Form.{Form}
-use Rattle.orders.specs.Fields.{fields, number}
-use Rattle.orders.specs.Orders.{orderIn, decided}
-use Rattle.orders.specs.Text.{decimal, weights}
+use Rattle.forms.specs.declared.Form.{Form}
+use Rattle.fields.specs.Fields.{fields}
+use Rattle.forms.specs.Forms.{numberIn, formIn, read, longestInput}
+use Rattle.text.specs.Text.{decimal, weights, longestOutput}
 use Rattle.orders.specs.Calls.{output}
 
 -- the uniform start that is ordered
 abbrev pub started : Form → List Leaf
-started f = uniform 8 21 (f .roots) (f .level)
+started f = uniformList CHILDREN HIGHEST (f .roots) (f .level)
 
 pub record SameShares (f : Form) : Type 0 where
   pub leaf-count : f .leaves ≡ length (started f)
-  pub call-passes : shares 8 21 (f .roots) (f .shares) (rootsOf (started f)) (levelsOf (started f)) (positionsOf (started f)) (weights f) (f .shares + 1) ≡ passed
+  pub call-accepts : (column : List ℕ) → f .shares + 1 ≤ length column
+      → shares CHILDREN HIGHEST (f .roots) (f .shares) (columnsOf (started f)) (weights f) column ≡ accepted (boundaries (f .shares) (weights f))
   pub formula-27 : (s : ℕ) → s ≤ f .shares → boundary (f .shares) (weights f) s ≡ s * f .leaves / f .shares
 
 pub record Promised : Type 0 where
-  pub first-bytes : (s : List ℕ) → output (take 71 s) ≡ output s
-  pub ordered : (s : List ℕ) (f : Form) → decided s ≡ accepted f → orderIn (fields s) ≡ f
-  pub repeats : (s : List ℕ) (f : Form) (i : ℕ) → decided s ≡ accepted f → 1 ≤ i → i ≤ 6 → decimal (number (fields s) i) ≡ getD (fields s) (i - 1) []
-  pub same-shares : (s : List ℕ) (f : Form) → decided s ≡ accepted f → SameShares f
-  pub room : (s : List ℕ) → length (output s) ≤ 86212
+  pub first-bytes : (s : List ℕ) → output (take longestInput s) ≡ output s
+  pub ordered : (s : List ℕ) (f : Form) → read s ≡ accepted f → formIn (fields s) ≡ f
+  pub repeats : (s : List ℕ) (f : Form) (i : ℕ) → read s ≡ accepted f → 1 ≤ i → i ≤ 6 → decimal (numberIn (fields s) i) ≡ getD (fields s) (i - 1) []
+  pub same-shares : (s : List ℕ) (f : Form) → read s ≡ accepted f → SameShares f
+  pub room : (s : List ℕ) → length (output s) ≤ longestOutput

@@ -1,15 +1,13 @@
--- What the prism takes from its triangle's and its line's answers. Assumes nothing.
+-- A prism's descendants are its triangle's and its line's, side by side. Assumes nothing.
 use mathlib.Core.Path.{_≡_, refl, ap, ap₂, _∙_, sym}
 use Prim.Native.Nat.{ℕ, zero, suc, _+_, _-_, _/_, _%_, _≤_, _<_}
 use native.Mathlib.Nat.{add-zero}
 use native.Mathlib.Omega.{arith}
-use Rattle.paper.specs.Outcome.{accepted, refused}
+use Rattle.tree.specs.Anchors.{side}
 use Rattle.tree.specs.Words.{descend, first, last}
 use Rattle.line.specs.declared.Line.{Line}
-use Rattle.line.specs.declared.LineAnswer.{LineAnswer}
 use Rattle.line.specs.Elements.{lineTo}
 use Rattle.triangle.specs.declared.Triangle.{Triangle}
-use Rattle.triangle.specs.declared.TriangleAnswer.{TriangleAnswer}
 use Rattle.triangle.specs.Elements.{triangleTo}
 use Rattle.line.specs.declared.LineAnswer.the-variants as line-answer
 use Rattle.line.specs.Elements as line
@@ -20,26 +18,7 @@ use Rattle.triangle.proofs.Units as triangle-units
 use Rattle.prism.specs.declared.Prism.{Prism}
 use Rattle.prism.specs.Elements.{prismTo, plan, upright, product}
 
--- ---- an answer that is known to be accepted
-pub triangle-is : (r : TriangleAnswer) (t f : Triangle) → r ≡ triangle-answer.Is t → triangle.triangleOf r ≡ accepted f → t ≡ f
-triangle-is r t f made read = let both : accepted t ≡ accepted f = sym (ap triangle.triangleOf made) ∙ read in cc
-
-pub line-is : (r : LineAnswer) (m f : Line) → r ≡ line-answer.Is m → line.lineOf r ≡ accepted f → m ≡ f
-line-is r m f made read = let both : accepted m ≡ accepted f = sym (ap line.lineOf made) ∙ read in cc
-
-never : {A E : Type 0} (n p : ℕ) (f : E) → refused n p ≡ accepted f → A
-never n p f h = absurd (let z : _≡_ {A = ℕ} 0 1 = cc in omega arith)
-
-pub triangle-never : {A : Type 0} (r : TriangleAnswer) (n p : ℕ) (f : Triangle) → r ≡ triangle-answer.Refused n p → triangle.triangleOf r ≡ accepted f → A
-triangle-never r n p f made read = never n p f (sym (ap triangle.triangleOf made) ∙ read)
-
-pub line-never : {A : Type 0} (r : LineAnswer) (n p : ℕ) (f : Line) → r ≡ line-answer.Refused n p → line.lineOf r ≡ accepted f → A
-line-never r n p f made read = never n p f (sym (ap line.lineOf made) ∙ read)
-
 module _ (L : ℕ) where
-  -- ---- the neighbour: across a side, below and above
-
-  -- ---- descendants, side by side
   descend-parts : (i k : ℕ) (e : Prism)
       → descend (prismTo L) i k e ≡ product (descend (triangleTo L) (i % 4) k (plan e)) (descend (lineTo L) (i / 4) k (upright e))
   unfolding descend prismTo triangleTo lineTo
@@ -60,9 +39,13 @@ module _ (L : ℕ) where
       line-level zero m = sym (add-zero (m .level))
       line-level (suc n) m = omega (arith, line-level n m)
 
-  pub last-parts : (e : Prism) (l : ℕ) → last (prismTo L) e l ≡ product (last (triangleTo L) (plan e) l) (last (lineTo L) (upright e) l)
+  pub last-closed : (e : Prism) (l : ℕ) → e .kind < 2 → e .level ≤ l → l ≤ L
+      → last (prismTo L) e l
+      ≡ (let d = side L (e .level) - side L l in record { x = e .x + d; y = e .y + d; z = e .z + d; level = l; kind = e .kind })
   unfolding prismTo triangleTo lineTo
-  last-parts e l = descend-parts 7 (l - e .level) e
+  last-closed e l typed down shallow =
+      descend-parts 7 (l - e .level) e
+      ∙ ap₂ product (triangle-units.last-closed L (plan e) l typed down shallow) (line-closed.last-closed L (upright e) l down shallow)
 
   pub first-closed : (e : Prism) (l : ℕ) → e .kind < 2 → e .level ≤ l
       → first (prismTo L) e l ≡ record { x = e .x; y = e .y; z = e .z; level = l; kind = e .kind }

@@ -1,17 +1,13 @@
-// What the calls do once their tests have passed. Each function asks for just what those tests have shown. A step up or down is
-// the triangle's and the line's own, side by side; the two loops over the levels and the step across a face go in one.
+// What the calls do once their tests have passed. Each function asks for just what those tests have shown. The triangle's part and the
+// line's, which is z, go in one.
 use crate::Prism;
 use crate::PrismAnswer;
-use line::Line;
-use line::LineAnswer;
 use tree::HIGHEST;
-use triangle::Triangle;
-use triangle::TriangleAnswer;
 ghost use mathlib.Core.Path.{_≡_};
 ghost use Prim.Native.Nat.{_^_, _≤_, _<_};
 ghost use Rattle.tree.specs.Anchors.{HIGHEST};
 ghost use Rattle.tree.specs.Words;
-ghost use Rattle.prism.specs.Elements.{CHILDREN, FACES, prism, prismOf, plan, upright, product};
+ghost use Rattle.prism.specs.Elements.{CHILDREN, FACES, prism, prismOf};
 
 // No check fails.
 const SOUND: u8 = 0;
@@ -60,64 +56,54 @@ impl Prism {
         self.kind == other.kind
     }
 
-    // The two that a prism is the product of.
-    fn plan(self) -> Triangle
-        ensures { λ r. ⌜ r ≡ plan self ⌝ }
-    {
-        Triangle {
-            x: self.x,
-            y: self.y,
-            level: self.level,
-            kind: self.kind,
-        }
-    }
-
-    fn upright(self) -> Line
-        ensures { λ r. ⌜ r ≡ upright self ⌝ }
-    {
-        Line {
-            x: self.z,
-            level: self.level,
-        }
-    }
-
     pub(crate) fn up(self) -> Prism
         requires { ⌜ (prism .fault self ≡ 0) × (0 < self .level) ⌝ }
         ensures { λ r. ⌜ r ≡ prism .parent self ⌝ }
     {
-        let TriangleAnswer::Is(t) = self.plan().parent() else {
-            return self;
-        };
-        let LineAnswer::Is(m) = self.upright().parent() else {
-            return self;
-        };
-        product(t, m)
+        let level = self.level - 1;
+        let slot = rows::slot_of(
+            tree::bit(self.level, self.x),
+            tree::bit(self.level, self.y),
+            self.kind,
+        );
+        Prism {
+            x: tree::rounded(level, self.x),
+            y: tree::rounded(level, self.y),
+            z: tree::rounded(level, self.z),
+            level,
+            kind: slot.kind,
+        }
     }
 
+    // The row is that of the triangle number, which is the child's number modulo 4.
     pub(crate) fn down(self, number: u8) -> Prism
         requires { ⌜ (prism .fault self ≡ 0) × ((self .level < HIGHEST) × (number < CHILDREN)) ⌝ }
         ensures { λ r. ⌜ r ≡ prism .child self number ⌝ }
     {
-        let TriangleAnswer::Is(t) = self.plan().child(number % 4) else {
-            return self;
-        };
-        let LineAnswer::Is(m) = self.upright().child(number / 4) else {
-            return self;
-        };
-        product(t, m)
+        let level = self.level + 1;
+        let h = tree::side(level);
+        let s = rows::child_row(self.kind, number);
+        Prism {
+            x: self.x + (s.x as u32) * h,
+            y: self.y + (s.y as u32) * h,
+            z: self.z + (number / 4) as u32 * h,
+            level,
+            kind: s.kind,
+        }
     }
 
     pub(crate) fn bottom(self, level: u8) -> Prism
         requires { ⌜ (prism .fault self ≡ 0) × ((self .level ≤ level) × (level ≤ HIGHEST)) ⌝ }
         ensures { λ r. ⌜ r ≡ Words.last prism self level ⌝ }
     {
-        let TriangleAnswer::Is(t) = self.plan().last_descendant(level) else {
-            return self;
-        };
-        let LineAnswer::Is(m) = self.upright().last_descendant(level) else {
-            return self;
-        };
-        product(t, m)
+        let d = tree::side(self.level) - tree::side(level);
+        Prism {
+            x: self.x + d,
+            y: self.y + d,
+            z: self.z + d,
+            level,
+            kind: self.kind,
+        }
     }
 
     pub(crate) fn across(self, face: u8) -> PrismAnswer
@@ -182,19 +168,6 @@ impl Prism {
         ensures { λ r. ⌜ r ≡ Words.position prism (Words.first prism self HIGHEST) ⌝ }
     {
         self.rank() << (3 * (HIGHEST - self.level))
-    }
-}
-
-// A triangle times a line of its level.
-fn product(t: Triangle, m: Line) -> Prism
-    ensures { λ r. ⌜ r ≡ product t m ⌝ }
-{
-    Prism {
-        x: t.x,
-        y: t.y,
-        z: m.x,
-        level: t.level,
-        kind: t.kind,
     }
 }
 

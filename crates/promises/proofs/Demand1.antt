@@ -1,54 +1,25 @@
--- Demand 1: each contract gives the answer's reading and the memory by the reading, and a refusal's memory is what it was. Assumes nothing.
-use mathlib.Core.Path.{_≡_, ap, _∙_, sym}
+-- Demand 1: each call fulfils its outcome, so that its answer and its memory are decided and a refusal leaves the memory as it was.
+-- Assumes nothing.
 use mathlib.Core.List.{List}
 use Prim.Native.Nat.{ℕ}
-use Rattle.paper.specs.Outcome.{Outcome, refused}
-use Rattle.paper.specs.Memory.{lent}
+use lib.ListN.{length}
+use Rattle.paper.specs.Outcome.{Outcome, mapped}
+use Rattle.paper.specs.Memory.{written, Fulfils}
 use Rattle.paper.specs.Readings.{valueOf, passOf}
-use Rattle.leaves.specs.Leaves.{Leaf, rootsOf, levelsOf, positionsOf}
-use Rattle.leaves.specs.Calls.{Columns}
+use Rattle.paper.proofs.Memory.{decided, spared}
+use Rattle.leaves.specs.Leaves.{front}
+use Rattle.format.specs.Reading.{Grid}
 use Rattle.reader.specs.Answers.{gridOf}
-use Rattle.promises.specs.Demand1.{Three, OfCalls}
+use Rattle.reader.specs.Calls.{sizeOf}
+use Rattle.promises.specs.Demand1.{Kept, OfCalls}
 use Rattle.promises.specs.Demand2.{Determined}
 use Rattle.promises.proofs.Demand2.{of-elements}
 use Rattle.promises.proofs.Numbered.{on-lists, on-points, order-said, printed-said}
 use Rattle.promises.proofs.Faults.{on-lines, on-triangles, on-prisms}
 
-three-same : (m m′ : Three) → m .roots ≡ m′ .roots → m .levels ≡ m′ .levels → m .positions ≡ m′ .positions → m ≡ m′
-three-same m m′ r l p =
-    ap (λ (x : List ℕ). record { roots = x; levels = m .levels; positions = m .positions }) r
-    ∙ ap (λ (x : List ℕ). record { roots = m′ .roots; levels = x; positions = m .positions }) l
-    ∙ ap (λ (x : List ℕ). record { roots = m′ .roots; levels = m′ .levels; positions = x }) p
-
-module _ {A B : Type 0} (reading : A → Outcome B) (determined : Determined reading) where
-  -- an answer with a given reading is the only one
-  one-answer : (o : Outcome B) (r s : A) → reading r ≡ o → reading s ≡ o → r ≡ s
-  one-answer o r s f g = determined r s (f ∙ sym g)
-
-  module _ (vs : List Leaf) (m : Three) where
-    abbrev Left : A → Three → Type 0
-    Left r m′ = Columns (reading r) vs (m .roots) (m .levels) (m .positions) (m′ .roots) (m′ .levels) (m′ .positions)
-
-    columns-decided : (r s : A) (a b : Three) → r ≡ s → Left r a → Left s b → a ≡ b
-    columns-decided r s a b same f g =
-        three-same a b
-        (f .roots-after ∙ ap (λ (x : A). lent (reading x) (rootsOf vs) (m .roots)) same ∙ sym (g .roots-after))
-        (f .levels-after ∙ ap (λ (x : A). lent (reading x) (levelsOf vs) (m .levels)) same ∙ sym (g .levels-after))
-        (f .positions-after ∙ ap (λ (x : A). lent (reading x) (positionsOf vs) (m .positions)) same ∙ sym (g .positions-after))
-
-    columns-spared : (r : A) (a : Three) (number at : ℕ) → Left r a → reading r ≡ refused number at → a ≡ m
-    columns-spared r a number at f e =
-        three-same a m
-        (f .roots-after ∙ ap (λ (o : Outcome B). lent o (rootsOf vs) (m .roots)) e)
-        (f .levels-after ∙ ap (λ (o : Outcome B). lent o (levelsOf vs) (m .levels)) e)
-        (f .positions-after ∙ ap (λ (o : Outcome B). lent o (positionsOf vs) (m .positions)) e)
-
-  module _ (front m : List ℕ) where
-    buffer-decided : (r s : A) (a b : List ℕ) → r ≡ s → a ≡ lent (reading r) front m → b ≡ lent (reading s) front m → a ≡ b
-    buffer-decided r s a b same f g = f ∙ ap (λ (x : A). lent (reading x) front m) same ∙ sym g
-
-    buffer-spared : (r : A) (a : List ℕ) (number at : ℕ) → a ≡ lent (reading r) front m → reading r ≡ refused number at → a ≡ m
-    buffer-spared r a number at f e = f ∙ ap (λ (o : Outcome B). lent o front m) e
+module _ {R A B M : Type 0} (reading : R → Outcome B) (shown : A → B) (put : A → M → M) (determined : Determined reading) where
+  kept : (due : Outcome A) (m : M) → Kept reading m (λ r m′. Fulfils reading (mapped shown) put due r m m′)
+  kept due m = (decided reading (mapped shown) put due m determined, spared reading shown put due m)
 
 pub of-calls : OfCalls
 of-calls =
@@ -58,32 +29,14 @@ of-calls =
       on-triangles = on-triangles;
       on-prisms = on-prisms;
       on-lists = on-lists;
-      on-points = on-points;
-      uniform = λ k level m. (
-        λ r s a b f g. let same = one-answer valueOf numbers _ r s (f .answer) (g .answer) in (same, columns-decided valueOf numbers _ m r s a b same (f .columns) (g .columns)),
-        λ r a number at f e. columns-spared valueOf numbers _ m r a number at (f .columns) e,
-      );
-      adaption = λ k vs marks m. (
-        λ r s a b f g. let same = one-answer valueOf numbers _ r s (f .answer) (g .answer) in (same, columns-decided valueOf numbers _ m r s a b same (f .columns) (g .columns)),
-        λ r a number at f e. columns-spared valueOf numbers _ m r a number at (f .columns) e,
-      );
-      shares = λ k p vs weights m. (
-        λ r s a b f g. let same = one-answer passOf passes _ r s (f .answer) (g .answer) in (same, buffer-decided passOf passes _ m r s a b same (f .written) (g .written)),
-        λ r a number at f e. buffer-spared passOf passes _ m r a number at (f .written) e,
-      );
-      writing = λ k vs m. (
-        λ r s a b f g. let same = one-answer valueOf numbers _ r s (f .answer) (g .answer) in (same, buffer-decided valueOf numbers _ m r s a b same (f .written) (g .written)),
-        λ r a number at f e. buffer-spared valueOf numbers _ m r a number at (f .written) e,
-      );
-      reading = λ bytes m. (
-        λ r s a b f g. let same = one-answer gridOf grids _ r s (f .answer) (g .answer) in (same, columns-decided gridOf grids _ m r s a b same (f .columns) (g .columns)),
-        λ r a number at f e. columns-spared gridOf grids _ m r a number at (f .columns) e,
-      );
-      ordering = λ input m. (
-        λ r s a b f g. let same = one-answer valueOf numbers _ r s (f .answer) (g .answer) in (same, buffer-decided valueOf numbers _ m r s a b same (f .written) (g .written)),
-        λ r a number at f e. buffer-spared valueOf numbers _ m r a number at (f .written) e,
-      );
       on-orders = λ input room. (order-said input, printed-said input room);
+      on-points = on-points;
+      uniform = λ k level m. kept valueOf length front numbers _ m;
+      adapt = λ k cs ms m. kept valueOf length front numbers _ m;
+      shares = λ k p cs ws m. kept passOf (λ (boundaries : List ℕ). tt) written passes _ m;
+      write = λ k cs m. kept valueOf length written numbers _ m;
+      read = λ bytes m. kept gridOf sizeOf (λ (g : Grid). front (g .leaves)) grids _ m;
+      answer = λ input m. kept valueOf length written numbers _ m;
     }
   where
     numbers : Determined valueOf

@@ -28,7 +28,7 @@ use Rattle.paper.specs.declared.TruthAnswer.{TruthAnswer}
 use Rattle.paper.specs.declared.CompareAnswer.{CompareAnswer}
 use Rattle.paper.specs.declared.PassAnswer.{PassAnswer}
 use Rattle.paper.specs.Readings.{valueOf, truthOf, comparisonOf, passOf}
-use Rattle.leaves.proofs.Ancestors.{tied}
+use Rattle.leaves.proofs.Ancestors.{cell-laws}
 use Rattle.balance.proofs.Exactly.{exact}
 use Rattle.leaves.proofs.Promised as leaves-laws
 use Rattle.adaption.proofs.Promised as adaption-laws
@@ -46,17 +46,17 @@ use Rattle.triangle.specs.declared.TriangleAnswer.the-variants as triangle-answ
 use Rattle.prism.specs.declared.PrismAnswer.the-variants as prism-answer
 use Rattle.paper.specs.declared.NumberAnswer.the-variants as number-answer
 use Rattle.paper.specs.declared.TruthAnswer.the-variants as truth-answer
-use Rattle.paper.specs.declared.CompareAnswer.the-variants as order-answer
+use Rattle.paper.specs.declared.CompareAnswer.the-variants as compare-answer
 use Rattle.paper.specs.declared.PassAnswer.the-variants as pass-answer
 use Rattle.numbers.specs.Numbers.{Found}
-use Rattle.reader.specs.Answers.{Size, gridOf}
 use Rattle.numbers.specs.Answers.{foundOf}
 use Rattle.numbers.specs.declared.FoundNumber.{FoundNumber}
-use Rattle.numbers.specs.declared.FoundNumber.the-variants as number-read
-use Rattle.reader.specs.declared.GridAnswer.{GridAnswer}
-use Rattle.reader.specs.declared.GridAnswer.the-variants as grid-answer
+use Rattle.numbers.specs.declared.FoundNumber.the-variants as found-number
 use Rattle.numbers.proofs.Coded.{codec}
 use Rattle.format.proofs.OneFile.{one-file}
+use Rattle.reader.specs.Answers.{Size, gridOf}
+use Rattle.reader.specs.declared.GridAnswer.{GridAnswer}
+use Rattle.reader.specs.declared.GridAnswer.the-variants as grid-answer
 use Rattle.gridfile.proofs.RoundTrip.{round-trip}
 use Rattle.gridfile.proofs.InMemory.{in-memory}
 use Rattle.orders.proofs.Promised as orders-laws
@@ -77,6 +77,7 @@ elements S index points faceAcross W ranked faces =
       round-trips = round-trips S W;
       ranked = ranked;
       positions = positions S W;
+      ancestors = ancestors S W;
       total-order = total-order S W;
       families = families S W;
       faces = faces;
@@ -146,15 +147,15 @@ grid-answers = determined-by gridOf (answer loaded grid-answer.Refused) undo
     undo (grid-answer.Is roots leaves) = refl
     undo (grid-answer.Refused n p) = refl
 
-abbrev value-read : Found → FoundNumber
-value-read r = number-read.Is (r .value) (r .next)
+abbrev found-is : Found → FoundNumber
+found-is r = found-number.Is (r .value) (r .next)
 
-numbers-read : Determined foundOf
-numbers-read = determined-by foundOf (answer value-read number-read.Refused) undo
+numbers-found : Determined foundOf
+numbers-found = determined-by foundOf (answer found-is found-number.Refused) undo
   where
-    undo : (r : FoundNumber) → answer value-read number-read.Refused (foundOf r) ≡ r
-    undo (number-read.Is value next) = refl
-    undo (number-read.Refused n p) = refl
+    undo : (r : FoundNumber) → answer found-is found-number.Refused (foundOf r) ≡ r
+    undo (found-number.Is value next) = refl
+    undo (found-number.Refused n p) = refl
 
 point-answers : Determined pointOf
 point-answers = determined-by pointOf (answer point-answer.Is point-answer.Refused) undo
@@ -164,18 +165,18 @@ point-answers = determined-by pointOf (answer point-answer.Is point-answer.Refus
     undo (point-answer.Refused n p) = refl
 
 abbrev ordered : Order → CompareAnswer
-ordered less = order-answer.Less
-ordered same = order-answer.Same
-ordered greater = order-answer.Greater
+ordered less = compare-answer.Less
+ordered same = compare-answer.Same
+ordered greater = compare-answer.Greater
 
-order-answers : Determined comparisonOf
-order-answers = determined-by comparisonOf (answer ordered order-answer.Refused) undo
+compare-answers : Determined comparisonOf
+compare-answers = determined-by comparisonOf (answer ordered compare-answer.Refused) undo
   where
-    undo : (r : CompareAnswer) → answer ordered order-answer.Refused (comparisonOf r) ≡ r
-    undo order-answer.Less = refl
-    undo order-answer.Same = refl
-    undo order-answer.Greater = refl
-    undo (order-answer.Refused n p) = refl
+    undo : (r : CompareAnswer) → answer ordered compare-answer.Refused (comparisonOf r) ≡ r
+    undo compare-answer.Less = refl
+    undo compare-answer.Same = refl
+    undo compare-answer.Greater = refl
+    undo (compare-answer.Refused n p) = refl
 
 pub of-elements : OfElements
 of-elements =
@@ -185,15 +186,26 @@ of-elements =
       of-prisms = elements prism (prismIndex 21) (prism-points.facePoints 21) prism-points.faceAcross (prism-laws.lawful 21) (prism-ranked 21) (prism-faces 21);
       children-are-bey's = bey 21;
       faces-by-definition-27 = definition-27 21;
-      determined = record { line-elements = line-elements; triangle-elements = triangle-elements; prism-elements = prism-elements; numbers = number-answers; truths = truth-answers; orders = order-answers; passes = pass-answers; grids = grid-answers; numbers-read = numbers-read; points = point-answers };
+      determined = record {
+        line-elements = line-elements;
+        triangle-elements = triangle-elements;
+        prism-elements = prism-elements;
+        numbers = number-answers;
+        truths = truth-answers;
+        comparisons = compare-answers;
+        passes = pass-answers;
+        grids = grid-answers;
+        numbers-found = numbers-found;
+        points = point-answers;
+      };
     }
 
 pub of-lists : OfLists
 of-lists =
     record {
       listed = leaves-laws.promised 8 21 (omega arith);
-      cells = tied prism (prism-laws.lawful 21);
-      relatives = adaption-ties.tied prism (prism-laws.lawful 21);
+      cells = cell-laws prism (prism-laws.lawful 21);
+      relatives = adaption-ties.relatives prism (prism-laws.lawful 21);
       adapted = adaption-laws.promised 8 21 (omega arith);
       shared = shares-laws.promised;
       balanced = exact;

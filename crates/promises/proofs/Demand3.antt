@@ -7,15 +7,16 @@ use native.Mathlib.Omega.{arith}
 use lib.Dec.{ltb, eqb}
 use lib.ListN.{length, getD}
 use borrow.Author.Tests.{eqb-true, eqb-false, not-true}
-use Rattle.paper.specs.Outcome.{passed}
+use Rattle.paper.specs.Outcome.{accepted}
 use Rattle.paper.proofs.Tests.{or-none, no-fault}
 use Rattle.paper.proofs.Scan.{accepted-of, scan-accepted, scan-each}
 use Rattle.prism.specs.Elements.{prismTo, prism}
-use Rattle.leaves.specs.Leaves.{Leaf, leaves, Valid}
+use Rattle.leaves.specs.Leaves.{Leaf, Columns, leaves, room, Valid}
 use Rattle.leaves.specs.Calls.{outOfRange}
-use Rattle.leaves.proofs.Ancestors.{tied}
+use Rattle.leaves.proofs.Ancestors.{cell-laws}
 use Rattle.leaves.proofs.Entries.{some-leaf}
-use Rattle.leaves.proofs.Listed.{columns-sound, listed-accepted, listed-fits, leaves-length}
+use Rattle.leaves.proofs.Listed.{columns-sound, listed-accepted, listed-fits}
+use Rattle.leaves.proofs.Columns.{leaves-length}
 use Rattle.adaption.specs.Laws.{Reached}
 use Rattle.shares.specs.Calls.{weightFault, shares}
 use Rattle.shares.specs.Laws.{Fair, Weighty}
@@ -33,8 +34,8 @@ of-list K P vs ws valid some long weighty positive = by (shares-laws.promised .f
     by fair =
         record {
           owner = λ r cell root sound smallest.
-              let one = tied prism (prism-laws.lawful 21) .once K vs valid r cell root sound smallest in
-              record { listed = one; shared = fair .one-share (one .which) (omega (arith, one .inside)) };
+              let one = cell-laws prism (prism-laws.lawful 21) .once K vs valid r cell root sound smallest in
+              record { listed = one; shared = fair .one-share (one .which) (omega (arith, one .below)) };
           from-none = fair .from-none;
           rising = fair .rising;
           to-all = fair .to-all ∙ long;
@@ -56,21 +57,21 @@ weight-some w right = above (eqb-false w 0 (no-fault (eqb w 0) 15 0 right .0))
     above : {m : ℕ} → (m ≡ 0 → ⊥) → 0 < m
     above {m} none = omega arith
 
-of-accepted : (K P : ℕ) (rs ls ps ws : List ℕ) (room : ℕ) → shares 8 21 K P rs ls ps ws room ≡ passed → Divided K P (leaves rs ls ps) ws
-of-accepted K P rs ls ps ws room h =
-    let inside = listed-accepted 8 21 K (not (outOfRange P)) (eqb (length rs) (length ws)) rs ls ps _ tt h in
-    let fits = listed-fits 8 21 K (not (outOfRange P)) (eqb (length rs) (length ws)) rs ls ps _ tt h in
-    let sound = columns-sound 8 21 K (not (outOfRange P)) (eqb (length rs) (length ws)) rs ls ps (inside .0) in
-    let weights = scan-accepted weightFault 0 ws _ tt (inside .1) in
-    let long = eqb-true (length rs) (length ws) (fits .1) in
-    of-list K P (leaves rs ls ps) ws (sound .valid) (omega (arith, sound .some, leaves-length rs ls ps)) (omega (arith, long, leaves-length rs ls ps))
+of-accepted : (K P : ℕ) (cs : Columns) (ws column boundaries : List ℕ) → shares 8 21 K P cs ws column ≡ accepted boundaries → Divided K P (leaves cs) ws
+of-accepted K P cs ws column boundaries h =
+    let inside = listed-accepted 8 21 K (not (outOfRange P)) (eqb (room cs) (length ws)) cs _ boundaries h in
+    let fits = listed-fits 8 21 K (not (outOfRange P)) (eqb (room cs) (length ws)) cs _ boundaries h in
+    let sound = columns-sound 8 21 K (not (outOfRange P)) (eqb (room cs) (length ws)) cs (inside .0) in
+    let weights = scan-accepted weightFault 0 ws _ boundaries (inside .1) in
+    let long = eqb-true (room cs) (length ws) (fits .1) in
+    of-list K P (leaves cs) ws (sound .valid) (omega (arith, sound .some, leaves-length cs)) (omega (arith, long, leaves-length cs))
     (λ j below. weight-some (getD ws j 0) (scan-each weightFault 0 ws 0 j (weights .0) below)) (shares-some P (fits .0))
 
 -- ---- a reached grid has a root
 reached-root : (K s : ℕ) (vs : List Leaf) → Reached 8 21 K s vs → 0 < K
 unfolding Reached
 reached-root K zero vs start =
-    let range = accepted-of (outOfRange K) 17 0 _ (start .size) (start .accepts) in
+    let range = accepted-of (outOfRange K) 17 0 _ vs (start .accepts) in
     above (eqb-false K 0 (or-none (eqb K 0) (ltb 4096 K) (range .0) .0))
   where
     above : {m : ℕ} → (m ≡ 0 → ⊥) → 0 < m
@@ -81,8 +82,8 @@ pub of-grids : OfGrids
 of-grids =
     record {
       of-valid = λ K P vs ws some valid. of-list K P vs ws valid (some-leaf 8 21 K vs some valid);
-      of-loaded = λ bytes equal room g P ws read.
-          let grid = loads-valid 8 21 (omega arith) (omega arith) bytes equal room g read in
+      of-loaded = λ bytes m g P ws read.
+          let grid = loads-valid 8 21 (omega arith) (omega arith) bytes m g read in
           of-list (g .roots) P (g .leaves) ws (grid .valid) (some-leaf 8 21 (g .roots) (g .leaves) (grid .some-root) (grid .valid));
       of-reached = λ K s P vs ws reached.
           let valid = adaption-laws.promised 8 21 (omega arith) .reached K s vs reached in

@@ -7,28 +7,28 @@ use native.Mathlib.Omega.{arith}
 use lib.Dec.{leb, ltb, eqb}
 use lib.ListN.{length, getD}
 use borrow.Author.Tests.{not-true, eqb-false, leb-true}
-use Rattle.paper.specs.Outcome.{Outcome, accepted, refused, passed, refuse-when-at, fault-when, mapped, scan, rows, and-then}
+use Rattle.paper.specs.Outcome.{Outcome, accepted, refused, passed, refuse-when-at, fault-when, mapped, and-then, scan, rows}
+use Rattle.paper.specs.Memory.{roomFor}
 use Rattle.paper.proofs.Scan.{never}
 use Rattle.tree.specs.Shape.{Shape}
-use Rattle.leaves.specs.Leaves.{Leaf, leaves, Spot, spotAt, endOf}
-use Rattle.leaves.specs.Calls.{limit, outOfRange, equalColumns, leafFault, walked, listed}
-use Rattle.balance.specs.Balance.{balanced}
-use Rattle.adaption.specs.Adaption.{mark, adapted}
-use Rattle.adaption.specs.Calls.{markFault, depthFault, numbers, marked}
+use Rattle.leaves.specs.Leaves.{Leaf, Columns, leaves, room, equalColumns, uniformList, Spot, spotAt, endOf}
+use Rattle.leaves.specs.Calls.{limit, outOfRange, starts, leafFault, walked, listed}
+use Rattle.balance.specs.Balance.{isBalanced}
+use Rattle.marks.specs.Marks.{mark, markFault, depthFault, numbers, marked}
+use Rattle.adaption.specs.Adaption.{adapted}
+use Rattle.shares.specs.Shares.{boundaries}
 use Rattle.shares.specs.Calls.{weightFault}
-use Rattle.format.specs.File.{fileOf}
 use Rattle.numbers.specs.Numbers.{found, byteAt, numberAt}
-use Rattle.format.specs.Reading.{opens, head, afterRuns, afterRoots, headAt, fits, leavesFrom, endFrom, foundRun, afterCount, afterLevel, runAt, runsAt, headed, gridAt}
-use Rattle.reader.specs.Calls.{fitted}
+use Rattle.format.specs.File.{fileOf}
+use Rattle.format.specs.Reading.{opens, head, afterRuns, afterRoots, headAt, Walk, start, keep, fits, leavesFrom, FoundRun, foundRun, afterCount, afterLevel, runAt, preceded, go-on, soundFrom, sound, leavesIf, headed, gridAt}
 use Rattle.corners.specs.declared.Root.{Root}
 use Rattle.corners.specs.CornerPoints.{rootWithin, cornerPoint}
-use Rattle.orders.specs.Fields.{fields, ended, isNumber, given, number}
-use Rattle.orders.specs.Calls.{output, answered}
-use Rattle.orders.specs.Orders as orders
+use Rattle.fields.specs.Fields.{fields, ended, isNumber}
+use Rattle.forms.specs.Forms.{given, numberIn, formIn}
+use Rattle.orders.specs.Calls.{output, answer}
+use Rattle.forms.specs.Forms as forms
 use Rattle.tree.specs.Words
 use Rattle.tree.specs.Calls as calls
-use Rattle.leaves.specs.Calls as lists
-use Rattle.writer.specs.Calls as files
 use Rattle.promises.specs.Demand1.{Numbered, OnElements, OnLists}
 
 -- a number of the paper
@@ -39,7 +39,7 @@ pub fine : {A : Type 0} (a : A) → Numbered (accepted a)
 fine a = record { said = λ number at e. never a number at (sym e) }
 
 refusal : {A : Type 0} (number at : ℕ) → Said number → Numbered {A = A} (refused number at)
-refusal {A} number at known = record { said = λ other spotAt e. subst Said (ap numberOf e) known }
+refusal {A} number at known = record { said = λ other place e. subst Said (ap numberOf e) known }
   where
     numberOf : Outcome A → ℕ
     numberOf (accepted a) = 0
@@ -111,7 +111,7 @@ module _ {E : Type 0} (S : Shape E) (few : (e : E) → S .fault e ≤ 24) (acros
 module _ (n L : ℕ) where
   leaf-few : (K : ℕ) (c : Spot) (v : Leaf) → leafFault n L K c v ≤ 24
   leaf-few K c v =
-      fault-few (ltb L (v .level)) 1 _ (omega arith) (fault-few (leb (n ^ v .level) (v .position)) 5 _ (omega arith) (fault-few (not (lists.starts n L K c v)) 12 0 (omega arith) (omega arith)))
+      fault-few (ltb L (v .level)) 1 _ (omega arith) (fault-few (leb (n ^ v .level) (v .position)) 5 _ (omega arith) (fault-few (not (starts n L K c v)) 12 0 (omega arith) (omega arith)))
 
   walked-said : {A : Type 0} (K i : ℕ) (c : Spot) (vs : List Leaf) (rest : Outcome A) → Numbered rest → Numbered (walked n L K i c vs rest)
   unfolding walked
@@ -119,12 +119,12 @@ module _ (n L : ℕ) where
   walked-said K i c (v ∷ vs) rest known =
       fault-said (leafFault n L K c v) i (walked n L K (suc i) (endOf n L v) vs rest) (leaf-few K c v) (walked-said K (suc i) (endOf n L v) vs rest known)
 
-  pub listed-said : {A : Type 0} (K : ℕ) (inRange fitting : Bool) (rs ls ps : List ℕ) (rest : Outcome A) → Numbered rest → Numbered (listed n L K inRange fitting rs ls ps rest)
-  listed-said K inRange fitting rs ls ps rest known =
+  pub listed-said : {A : Type 0} (K : ℕ) (inRange fitting : Bool) (cs : Columns) (rest : Outcome A) → Numbered rest → Numbered (listed n L K inRange fitting cs rest)
+  listed-said K inRange fitting cs rest known =
       when (outOfRange K || not inRange) 17 0 refl
-      (when (not (equalColumns rs ls ps && fitting)) 11 0 refl
-      (when (eqb (length rs) 0 || ltb limit (length rs)) 11 0 refl
-      (walked-said K 0 (spotAt 0 0) (leaves rs ls ps) rest known)))
+      (when (not (equalColumns cs && fitting)) 11 0 refl
+      (when (eqb (room cs) 0 || ltb limit (room cs)) 11 0 refl
+      (walked-said K 0 (spotAt 0 0) (leaves cs) rest known)))
 
 -- ---- files
 number-said : (bs : List ℕ) (i : ℕ) → Numbered (numberAt bs i)
@@ -146,33 +146,35 @@ head-said bs =
     when (eqb (r .value) 0 || ltb limit (r .value)) 21 (k .next) refl (fine (head (k .value) (r .value) (r .next)))))))
 
 module _ (n L : ℕ) (bs : List ℕ) (K : ℕ) where
-  run-said : (i before : ℕ) (c : Spot) (N : ℕ) → Numbered (runAt n L bs K i before c N)
-  run-said i before c N =
-      then-said (numberAt bs i) (afterLevel n L bs K i before c N) (number-said bs i) (λ l.
-      when (ltb L (l .value)) 1 i refl (when (eqb before (l .value)) 21 i refl
-      (then-said (numberAt bs (l .next)) (afterCount n L K i c N l) (number-said bs (l .next)) (λ k.
-      when (eqb (k .value) 0) 21 (l .next) refl (when (ltb limit (N + k .value)) 15 (l .next) refl
-      (when (not (fits n L K c (l .value) (k .value))) 12 i refl (fine (foundRun (l .value) (k .value) (k .next)))))))))
+  run-said : (w : Walk) → Numbered (runAt n L bs K w)
+  run-said w =
+      then-said (numberAt bs (w .next)) (afterLevel n L bs K w) (number-said bs (w .next)) (λ l.
+      when (ltb L (l .value)) 1 (w .next) refl (when (eqb (w .before) (l .value)) 21 (w .next) refl
+      (then-said (numberAt bs (l .next)) (afterCount n L K w l) (number-said bs (l .next)) (λ k.
+      when (eqb (k .value) 0) 21 (l .next) refl (when (ltb limit (w .count + k .value)) 15 (l .next) refl
+      (when (not (fits n L K (w .come) (l .value) (k .value))) 12 (w .next) refl (fine (foundRun (l .value) (k .value) (k .next)))))))))
 
-  runs-said : (R i before : ℕ) (c : Spot) (N : ℕ) → Numbered (runsAt n L bs K R i before c N)
-  unfolding runsAt
-  runs-said zero i before c N = when (not (eqb (c .root) K && eqb (c .cell) 0)) 12 i refl (when (ltb i (length bs)) 22 i refl (fine []))
-  runs-said (suc R) i before c N =
-      then-said (runAt n L bs K i before c N) _ (run-said i before c N) (λ r.
-      mapped-said (λ (vs : List Leaf). leavesFrom n L c (r .level) (r .count) ++ vs) (runsAt n L bs K R (r .next) (r .level) (endFrom n L c (r .level) (r .count)) (N + r .count))
-      (runs-said R (r .next) (r .level) (endFrom n L c (r .level) (r .count)) (N + r .count)))
+  runs-said : (R : ℕ) (w : Walk) → Numbered (soundFrom n L bs K R w .fault)
+  unfolding soundFrom
+  runs-said zero w = when (not (eqb (w .come .root) K && eqb (w .come .cell) 0)) 12 (w .next) refl (when (ltb (w .next) (length bs)) 22 (w .next) refl (fine tt))
+  runs-said (suc R) w = by (runAt n L bs K w) (run-said w)
+    where
+      by : (o : Outcome FoundRun) → Numbered o
+          → Numbered (go-on w o (λ (r : FoundRun). preceded (leavesFrom n L (w .come) (r .level) (r .count)) (soundFrom n L bs K R (keep n L w r))) .fault)
+      by (accepted r) known = runs-said R (keep n L w r)
+      by (refused number place) known = refusal number place (known .said number place refl)
 
 grid-said : (n L : ℕ) (bs : List ℕ) → Numbered (gridAt n L bs)
 grid-said n L bs =
     then-said (headAt bs) (headed n L bs) (head-said bs) (λ h.
-    mapped-said (λ (vs : List Leaf). record { roots = h .roots; leaves = vs }) (runsAt n L bs (h .roots) (h .runs) (h .next) (suc L) (spotAt 0 0) 0)
-    (runs-said n L bs (h .roots) (h .runs) (h .next) (suc L) (spotAt 0 0) 0))
+    mapped-said (λ (vs : List Leaf). record { roots = h .roots; leaves = vs }) (leavesIf (sound n L bs h))
+    (mapped-said (λ (u : Unit {0}). sound n L bs h .leaves) (sound n L bs h .fault) (runs-said n L bs (h .roots) (h .runs) (start n L (h .next)))))
 
 -- ---- the calls' last tests
-room-said : (room needed : ℕ) → Numbered (files.sized needed room)
-room-said room needed = when (ltb room needed) 14 needed refl (fine needed)
+room-said : {A : Type 0} (needed room : ℕ) (a : A) → Numbered (roomFor needed room a)
+room-said needed room a = when (ltb room needed) 14 needed refl (fine a)
 
-marks-said : (ls ms : List ℕ) (rest : Outcome ℕ) → Numbered rest → Numbered (marked 21 ls ms rest)
+marks-said : {A : Type 0} (ls ms : List ℕ) (rest : Outcome A) → Numbered rest → Numbered (marked 21 ls ms rest)
 marks-said ls ms rest known =
     in-turn (markFault ms) (λ i. fault-few (ltb 2 (mark ms i)) 13 0 (omega arith) (omega arith)) 0 (numbers (length ms)) _
     (in-turn (depthFault 21 ls ms) (λ i. fault-few (eqb (mark ms i) 1 && leb 21 (getD ls i 0)) 7 0 (omega arith) (omega arith)) 0 (numbers (length ms)) rest known)
@@ -180,19 +182,21 @@ marks-said ls ms rest known =
 pub on-lists : OnLists
 on-lists =
     record {
-      check = λ K rs ls ps. listed-said 8 21 K true true rs ls ps passed (fine tt);
-      uniform = λ K l equal room.
-          when (outOfRange K) 17 0 refl (when (not equal) 11 0 refl (when (ltb 21 l) 1 0 refl (when (ltb limit (K * 8 ^ l)) 15 0 refl (room-said room (K * 8 ^ l)))));
-      balanced = λ K rs ls ps. listed-said 8 21 K true true rs ls ps _ (fine (balanced (leaves rs ls ps)));
-      adaption = λ K rs ls ps ms equal room.
-          listed-said 8 21 K true (eqb (length rs) (length ms) && equal) rs ls ps _
-          (marks-said ls ms _ (when (ltb limit (length (adapted 8 (leaves rs ls ps) ms))) 15 0 refl (room-said room (length (adapted 8 (leaves rs ls ps) ms)))));
-      shares = λ K P rs ls ps ws room.
-          listed-said 8 21 K (not (outOfRange P)) (eqb (length rs) (length ws)) rs ls ps _
-          (in-turn weightFault (λ w. fault-few (eqb w 0) 16 0 (omega arith) (omega arith)) 0 ws _ (when (ltb room (P + 1)) 14 (P + 1) refl (fine tt)));
-      writing = λ K rs ls ps room. listed-said 8 21 K true true rs ls ps _ (room-said room (length (fileOf K (leaves rs ls ps))));
-      reading = λ bytes equal room.
-          when (not equal) 11 0 refl (then-said (gridAt 8 21 bytes) (fitted room) (grid-said 8 21 bytes) (λ g. when (ltb room (length (g .leaves))) 14 (length (g .leaves)) refl (fine g)));
+      check = λ K cs. listed-said 8 21 K true true cs passed (fine tt);
+      uniform = λ K l m.
+          when (outOfRange K) 17 0 refl (when (not (equalColumns m)) 11 0 refl (when (ltb 21 l) 1 0 refl (when (ltb limit (K * 8 ^ l)) 15 0 refl
+          (room-said (K * 8 ^ l) (room m) (uniformList 8 21 K l)))));
+      balanced = λ K cs. listed-said 8 21 K true true cs _ (fine (isBalanced (leaves cs)));
+      adapt = λ K cs ms m.
+          let ws = adapted 8 (leaves cs) ms in
+          listed-said 8 21 K true (eqb (room cs) (length ms) && equalColumns m) cs _
+          (marks-said (cs .levels) ms _ (when (ltb limit (length ws)) 15 0 refl (room-said (length ws) (room m) ws)));
+      shares = λ K P cs ws m.
+          listed-said 8 21 K (not (outOfRange P)) (eqb (room cs) (length ws)) cs _
+          (in-turn weightFault (λ w. fault-few (eqb w 0) 16 0 (omega arith) (omega arith)) 0 ws _ (room-said (P + 1) (length m) (boundaries P ws)));
+      write = λ K cs m. listed-said 8 21 K true true cs _ (room-said (length (fileOf K (leaves cs))) (length m) (fileOf K (leaves cs)));
+      read = λ bytes m.
+          when (not (equalColumns m)) 11 0 refl (then-said (gridAt 8 21 bytes) _ (grid-said 8 21 bytes) (λ g. room-said (length (g .leaves)) (room m) g));
     }
 
 -- ---- points
@@ -206,21 +210,21 @@ on-points l p i r =
     (fine _))))
 
 -- ---- orders
-field-few : (fs : List (List ℕ)) (i : ℕ) → orders.fault fs i ≤ 24
+field-few : (fs : List (List ℕ)) (i : ℕ) → forms.fault fs i ≤ 24
 field-few fs i =
-    let v = number fs i in
+    let v = numberIn fs i in
     fault-few (leb (length fs) (i - 1)) 23 _ (omega arith)
     (fault-few (not (isNumber (given fs i))) 23 _ (omega arith)
     (fault-few (eqb i 4 && outOfRange v) 17 _ (omega arith)
     (fault-few (eqb i 5 && ltb 21 v) 1 _ (omega arith)
     (fault-few (eqb i 6 && outOfRange v) 17 _ (omega arith)
-    (fault-few (eqb i 7 && ltb (number fs 5) v) 23 _ (omega arith)
-    (fault-few (eqb i 7 && ltb limit (number fs 4 * 8 ^ v)) 15 0 (omega arith) (omega arith)))))))
+    (fault-few (eqb i 7 && ltb (numberIn fs 5) v) 23 _ (omega arith)
+    (fault-few (eqb i 7 && ltb limit (numberIn fs 4 * 8 ^ v)) 15 0 (omega arith) (omega arith)))))))
 
-pub order-said : (input : List ℕ) → Numbered (orders.decided input)
+pub order-said : (input : List ℕ) → Numbered (forms.read input)
 order-said input =
-    in-turn (orders.fault (fields input)) (field-few (fields input)) 1 (rows (λ i. i) 1 7) _
-    (when (not (eqb (length (fields input)) 7 && ended input)) 23 8 refl (fine (orders.orderIn (fields input))))
+    in-turn (forms.fault (fields input)) (field-few (fields input)) 1 (rows (λ i. i) 1 7) _
+    (when (not (eqb (length (fields input)) 7 && ended input)) 23 8 refl (fine (formIn (fields input))))
 
-pub printed-said : (input : List ℕ) (room : ℕ) → Numbered (answered input room)
-printed-said input room = when (ltb room (length (output input))) 14 (length (output input)) refl (fine (length (output input)))
+pub printed-said : (input : List ℕ) (room : ℕ) → Numbered (answer input room)
+printed-said input room = room-said (length (output input)) room (output input)

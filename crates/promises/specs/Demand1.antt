@@ -1,84 +1,50 @@
 -- The order's first demand: "Every element, list, file or order handed in gets either its one result or one numbered refusal. A refused call
 -- writes nothing into the columns or buffers we lent, and it never depends on our having checked first." Definitions only.
 --
--- That it never depends on a check before is that no contract has a condition. The rest, of a call with the contract C, which speaks of its
--- answer and of what stands in the lent memory afterwards:
+-- That it never depends on a check before is that no contract has a condition. The rest, of a call that lends memory, is said of its contract,
+-- which speaks of its answer and of what stands in the memory afterwards (`Decided`, `Spared` of `paper/specs/Memory.antt`):
 --
---   Decided C        two runs on the same input have the same answer and leave the same memory
---   Spared f m C     where the answer's reading f is a refusal, the memory is m, what it was
+--   Kept f m C       two runs with the contract C have the same answer and leave the same memory; where the answer's reading f is a refusal,
+--                    the memory is m, what it was
 --   Numbered o       a refusal has one of the numbers 1 to 24
 --   OnElements S     every call on the elements of a shape is so
 --   OnLists          and every call on lists and files; on-points and on-orders say it of corner points and orders
---   Three            three lent columns
 --   OfCalls          demand 1, of every call that lends memory; the others answer only, and an answer is known by its reading (`Answers`)
 --
 -- Assumes nothing.
 use mathlib.Core.Path.{_≡_}
-use mathlib.Core.Bool.{Bool, true}
+use mathlib.Core.Bool.{Bool}
 use mathlib.Core.List.{List}
 use Prim.Native.Nat.{ℕ, _≤_}
-use Rattle.paper.specs.Outcome.{Outcome, refused, passed}
+use Rattle.paper.specs.Outcome.{Outcome, refused}
+use Rattle.paper.specs.Memory.{Decided, Spared}
 use Rattle.paper.specs.Readings.{valueOf, passOf}
-use Rattle.paper.specs.declared.NumberAnswer.{NumberAnswer}
-use Rattle.paper.specs.declared.PassAnswer.{PassAnswer}
-use Rattle.leaves.specs.Start.{Started}
-use Rattle.adaption.specs.Calls.{Adapted}
-use Rattle.shares.specs.Calls.{Shared}
-use Rattle.reader.specs.Answers.{gridOf}
-use Rattle.writer.specs.Calls.{FileWritten}
-use Rattle.reader.specs.Calls.{FileRead}
-use Rattle.reader.specs.declared.GridAnswer.{GridAnswer}
-use Rattle.corners.specs.declared.Root.{Root}
-use Rattle.corners.specs.CornerPoints.{cornerPoint}
-use Rattle.orders.specs.Orders.{decided}
-use Rattle.orders.specs.Calls.{answered, Answered}
+use Rattle.tree.specs.Anchors.{HIGHEST}
 use Rattle.tree.specs.Shape.{Shape}
 use Rattle.line.specs.Elements.{line}
 use Rattle.triangle.specs.Elements.{triangle}
 use Rattle.prism.specs.Elements.{prism}
-use Rattle.balance.specs.Balance.{isBalanced}
+use Rattle.leaves.specs.Leaves.{CHILDREN, Columns}
+use Rattle.leaves.specs.Calls.{checkList, uniform, Started}
+use Rattle.adaption.specs.Calls.{adapt, Adapted}
+use Rattle.shares.specs.Calls.{shares, Shared}
+use Rattle.balance.specs.Balance.{balanced}
+use Rattle.writer.specs.Calls.{write, FileWritten}
+use Rattle.reader.specs.Answers.{gridOf}
+use Rattle.reader.specs.Calls.{read, FileRead}
+use Rattle.corners.specs.declared.Root.{Root}
+use Rattle.corners.specs.CornerPoints.{cornerPoint}
+use Rattle.orders.specs.Calls.{answer, Answered}
 use Rattle.tree.specs.Calls as calls
-use Rattle.leaves.specs.Calls as lists
-use Rattle.adaption.specs.Calls as adaptions
-use Rattle.shares.specs.Calls as parts
-use Rattle.writer.specs.Calls as files
-use Rattle.reader.specs.Calls as reading-file
+use Rattle.forms.specs.Forms as forms
 use Rattle.promises.specs.Demand2.{Answers}
 
-pub record Three : Type 0 where
-  pub roots : List ℕ
-  pub levels : List ℕ
-  pub positions : List ℕ
-
-abbrev pub Decided : {A M : Type 0} → (A → M → Type 0) → Type 0
-Decided {A} {M} C = (r s : A) (m m′ : M) → C r m → C s m′ → (r ≡ s) × (m ≡ m′)
-
-abbrev pub Spared : {A B M : Type 0} → (A → Outcome B) → M → (A → M → Type 0) → Type 0
-Spared {A} {B} {M} reading before C = (r : A) (m : M) (number at : ℕ) → C r m → reading r ≡ refused number at → m ≡ before
-
--- ---- the contracts, over the memory lent
-abbrev pub Starts : ℕ → ℕ → Three → NumberAnswer → Three → Type 0
-Starts k level m r m′ = Started k level r (m .roots) (m .levels) (m .positions) (m′ .roots) (m′ .levels) (m′ .positions)
-
-abbrev pub Adapts : ℕ → Three → List ℕ → Three → NumberAnswer → Three → Type 0
-Adapts k vs marks m r m′ =
-    Adapted k r (vs .roots) (vs .levels) (vs .positions) marks (m .roots) (m .levels) (m .positions) (m′ .roots) (m′ .levels) (m′ .positions)
-
-abbrev pub Shares : ℕ → ℕ → Three → List ℕ → List ℕ → PassAnswer → List ℕ → Type 0
-Shares k p vs weights m r m′ = Shared k p r (vs .roots) (vs .levels) (vs .positions) weights m m′
-
-abbrev pub Writes : ℕ → Three → List ℕ → NumberAnswer → List ℕ → Type 0
-Writes k vs m r m′ = FileWritten k r (vs .roots) (vs .levels) (vs .positions) m m′
-
-abbrev pub Reads : List ℕ → Three → GridAnswer → Three → Type 0
-Reads bytes m r m′ = FileRead bytes r (m .roots) (m .levels) (m .positions) (m′ .roots) (m′ .levels) (m′ .positions)
-
-abbrev pub Prints : List ℕ → List ℕ → NumberAnswer → List ℕ → Type 0
-Prints input m r m′ = Answered r input m m′
+abbrev pub Kept : {R B M : Type 0} → (R → Outcome B) → M → (R → M → Type 0) → Type 0
+Kept reading m C = Decided C × Spared reading m C
 
 -- ---- the refusals
 pub record Numbered {A : Type 0} (o : Outcome A) : Type 0 where
-  pub said : (number at : ℕ) → o ≡ refused number at → (1 ≤ number) × (number ≤ 24)
+  pub said : (number place : ℕ) → o ≡ refused number place → (1 ≤ number) × (number ≤ 24)
 
 pub record OnElements {E : Type 0} (S : Shape E) : Type 0 where
   pub at : (l p : ℕ) → Numbered (calls.at S l p)
@@ -93,13 +59,13 @@ pub record OnElements {E : Type 0} (S : Shape E) : Type 0 where
   pub order : (e f : E) → Numbered (calls.order S e f)
 
 pub record OnLists : Type 0 where
-  pub check : (K : ℕ) (rs ls ps : List ℕ) → Numbered (lists.listed 8 21 K true true rs ls ps passed)
-  pub uniform : (K l : ℕ) (equal : Bool) (room : ℕ) → Numbered (lists.uniform 8 21 K l equal room)
-  pub balanced : (K : ℕ) (rs ls ps : List ℕ) → Numbered (isBalanced 8 21 K rs ls ps)
-  pub adaption : (K : ℕ) (rs ls ps ms : List ℕ) (equal : Bool) (room : ℕ) → Numbered (adaptions.adaption 8 21 K rs ls ps ms equal room)
-  pub shares : (K P : ℕ) (rs ls ps ws : List ℕ) (room : ℕ) → Numbered (parts.shares 8 21 K P rs ls ps ws room)
-  pub writing : (K : ℕ) (rs ls ps : List ℕ) (room : ℕ) → Numbered (files.writing 8 21 K rs ls ps room)
-  pub reading : (bytes : List ℕ) (equal : Bool) (room : ℕ) → Numbered (reading-file.reading 8 21 bytes equal room)
+  pub check : (K : ℕ) (cs : Columns) → Numbered (checkList CHILDREN HIGHEST K cs)
+  pub uniform : (K l : ℕ) (m : Columns) → Numbered (uniform CHILDREN HIGHEST K l m)
+  pub balanced : (K : ℕ) (cs : Columns) → Numbered (balanced CHILDREN HIGHEST K cs)
+  pub adapt : (K : ℕ) (cs : Columns) (ms : List ℕ) (m : Columns) → Numbered (adapt CHILDREN HIGHEST K cs ms m)
+  pub shares : (K P : ℕ) (cs : Columns) (ws m : List ℕ) → Numbered (shares CHILDREN HIGHEST K P cs ws m)
+  pub write : (K : ℕ) (cs : Columns) (m : List ℕ) → Numbered (write CHILDREN HIGHEST K cs m)
+  pub read : (bytes : List ℕ) (m : Columns) → Numbered (read CHILDREN HIGHEST bytes m)
 
 pub record OfCalls : Type 0 where
   pub answers : Answers
@@ -107,11 +73,11 @@ pub record OfCalls : Type 0 where
   pub on-triangles : OnElements triangle
   pub on-prisms : OnElements prism
   pub on-lists : OnLists
-  pub on-orders : (input : List ℕ) (room : ℕ) → Numbered (decided input) × Numbered (answered input room)
+  pub on-orders : (input : List ℕ) (room : ℕ) → Numbered (forms.read input) × Numbered (answer input room)
   pub on-points : (l p i : ℕ) (r : Root) → Numbered (cornerPoint l p i r)
-  pub uniform : (k level : ℕ) (m : Three) → Decided (Starts k level m) × Spared valueOf m (Starts k level m)
-  pub adaption : (k : ℕ) (vs : Three) (marks : List ℕ) (m : Three) → Decided (Adapts k vs marks m) × Spared valueOf m (Adapts k vs marks m)
-  pub shares : (k p : ℕ) (vs : Three) (weights m : List ℕ) → Decided (Shares k p vs weights m) × Spared passOf m (Shares k p vs weights m)
-  pub writing : (k : ℕ) (vs : Three) (m : List ℕ) → Decided (Writes k vs m) × Spared valueOf m (Writes k vs m)
-  pub reading : (bytes : List ℕ) (m : Three) → Decided (Reads bytes m) × Spared gridOf m (Reads bytes m)
-  pub ordering : (input m : List ℕ) → Decided (Prints input m) × Spared valueOf m (Prints input m)
+  pub uniform : (k level : ℕ) (m : Columns) → Kept valueOf m (λ r m′. Started k level r m m′)
+  pub adapt : (k : ℕ) (cs : Columns) (ms : List ℕ) (m : Columns) → Kept valueOf m (λ r m′. Adapted k r cs ms m m′)
+  pub shares : (k p : ℕ) (cs : Columns) (ws m : List ℕ) → Kept passOf m (λ r m′. Shared k p r cs ws m m′)
+  pub write : (k : ℕ) (cs : Columns) (m : List ℕ) → Kept valueOf m (λ r m′. FileWritten k r cs m m′)
+  pub read : (bytes : List ℕ) (m : Columns) → Kept gridOf m (λ r m′. FileRead bytes r m m′)
+  pub answer : (input m : List ℕ) → Kept valueOf m (λ r m′. Answered r input m m′)

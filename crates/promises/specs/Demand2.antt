@@ -4,7 +4,7 @@
 --   Elements      what is promised of one shape, with its index and its faces
 --   Determined f  two answers with the same reading are the same answer
 --   OfElements    demand 2, of the elements of all three shapes
---   Answers       of every enum that a public call answers, and of a file's number
+--   Answers       of every enum that a public call answers, and of a number found in a file
 --   OfLists       demand 2, of leaf lists: the list check is exact, each smallest cell lies in one leaf, a leaf's relatives are the
 --                 prism's, adaption is the paper's one pass, boundaries are the paper's, balanced is the paper's
 --   OfOrders      of the order program: the first 71 bytes decide, its shares are the list's own, its output has room
@@ -16,17 +16,20 @@ use mathlib.Core.Path.{_≡_}
 use mathlib.Core.List.{List}
 use Prim.Native.Nat.{ℕ}
 use Rattle.paper.specs.Readings.{valueOf, truthOf, comparisonOf, passOf}
+use Rattle.tree.specs.Anchors.{HIGHEST}
 use Rattle.tree.specs.Shape.{Shape}
+use Rattle.tree.specs.Ancestors.{Ancestors}
 use Rattle.tree.specs.Laws.{Lawful, RoundTrips, Positions, TotalOrder, Families, Faces}
 use Rattle.triangle.specs.Points.{Bey}
 use Rattle.index.specs.Index.{lineIndex, triangleIndex, prismIndex}
 use Rattle.index.specs.Rank.{Ranked}
+use Rattle.leaves.specs.Leaves.{CHILDREN}
 use Rattle.leaves.specs.Cells.{CellLaws}
 use Rattle.balance.specs.Balance.{ExactBalance}
 use Rattle.numbers.specs.Answers.{foundOf}
-use Rattle.reader.specs.Answers.{gridOf}
 use Rattle.numbers.specs.Laws.{Codec}
 use Rattle.format.specs.Laws.{OneFile}
+use Rattle.reader.specs.Answers.{gridOf}
 use Rattle.gridfile.specs.Laws.{RoundTrip, InMemory}
 use Rattle.corners.specs.CornerPoints.{pointOf}
 use Rattle.leaves.specs.Laws as leaves
@@ -46,6 +49,7 @@ pub record Elements {E P : Type 0} (S : Shape E) (index : E → ℕ) (points : E
   pub round-trips : RoundTrips S
   pub ranked : Ranked S index
   pub positions : Positions S
+  pub ancestors : Ancestors S
   pub total-order : TotalOrder S
   pub families : Families S
   pub faces : Faces S points faceAcross
@@ -59,32 +63,32 @@ pub record Answers : Type 0 where
   pub prism-elements : Determined prisms.prismOf
   pub numbers : Determined valueOf
   pub truths : Determined truthOf
-  pub orders : Determined comparisonOf
+  pub comparisons : Determined comparisonOf
   pub passes : Determined passOf
   pub grids : Determined gridOf
-  pub numbers-read : Determined foundOf
+  pub numbers-found : Determined foundOf
   pub points : Determined pointOf
 
 pub record OfElements : Type 0 where
-  pub of-lines : Elements lines.line lineIndex (line-points.facePoints 21) line-points.faceAcross
-  pub of-triangles : Elements triangles.triangle (triangleIndex 21) (triangle-points.facePoints 21) triangle-points.faceAcross
-  pub of-prisms : Elements prisms.prism (prismIndex 21) (prism-points.facePoints 21) prism-points.faceAcross
-  pub children-are-bey's : Bey 21
-  pub faces-by-definition-27 : prism-points.Definition27 21
+  pub of-lines : Elements lines.line lineIndex (line-points.facePoints HIGHEST) line-points.faceAcross
+  pub of-triangles : Elements triangles.triangle (triangleIndex HIGHEST) (triangle-points.facePoints HIGHEST) triangle-points.faceAcross
+  pub of-prisms : Elements prisms.prism (prismIndex HIGHEST) (prism-points.facePoints HIGHEST) prism-points.faceAcross
+  pub children-are-bey's : Bey HIGHEST
+  pub faces-by-definition-27 : prism-points.Definition27 HIGHEST
   pub determined : Answers
 
 pub record OfLists : Type 1 where
-  pub listed : leaves.Promised 8 21
+  pub listed : leaves.Promised CHILDREN HIGHEST
   pub cells : CellLaws prisms.prism
   pub relatives : adaption.Relatives prisms.prism
-  pub adapted : adaption.Promised 8 21
+  pub adapted : adaption.Promised CHILDREN HIGHEST
   pub shared : shares.Promised
   pub balanced : ExactBalance
 
 pub record OfFiles : Type 0 where
   pub numbers : Codec
-  pub one-file : OneFile 8 21
-  pub round-trip : RoundTrip 8 21
+  pub one-file : OneFile CHILDREN HIGHEST
+  pub round-trip : RoundTrip CHILDREN HIGHEST
   pub in-memory : InMemory
 
 pub record OfPoints : Type 0 where

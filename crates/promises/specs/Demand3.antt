@@ -10,29 +10,29 @@
 --
 -- Assumes nothing.
 use mathlib.Core.Path.{_≡_}
-use mathlib.Core.Bool.{Bool}
 use mathlib.Core.List.{List}
 use Prim.Native.Nat.{ℕ, _+_, _*_, _≤_, _<_}
 use lib.ListN.{length}
-use Rattle.paper.specs.Outcome.{accepted, passed}
+use Rattle.paper.specs.Outcome.{accepted}
+use Rattle.tree.specs.Anchors.{HIGHEST}
 use Rattle.tree.specs.Laws.{Sound}
 use Rattle.prism.specs.declared.Prism.{Prism}
 use Rattle.prism.specs.Elements.{prism}
-use Rattle.leaves.specs.Leaves.{Leaf, leaves, Valid}
+use Rattle.leaves.specs.Leaves.{CHILDREN, Leaf, Columns, leaves, Valid}
 use Rattle.leaves.specs.Cells.{OneLeaf}
 use Rattle.adaption.specs.Laws.{Reached}
 use Rattle.shares.specs.Shares.{total, boundary, weight, heaviest}
 use Rattle.shares.specs.Calls.{shares}
 use Rattle.shares.specs.Laws.{OneShare, Weighty}
 use Rattle.format.specs.Reading.{Grid}
-use Rattle.reader.specs.Calls.{reading}
+use Rattle.reader.specs.Calls.{read}
 
 pub record Owner (P : ℕ) (vs : List Leaf) (ws : List ℕ) (r : ℕ) (cell : Prism) : Type 0 where
   pub listed : OneLeaf prism vs r cell
   pub shared : OneShare P ws (listed .which)
 
 pub record Divided (K P : ℕ) (vs : List Leaf) (ws : List ℕ) : Type 0 where
-  pub owner : (r : ℕ) (cell : Prism) → r < K → Sound prism cell → cell .level ≡ 21 → Owner P vs ws r cell
+  pub owner : (r : ℕ) (cell : Prism) → r < K → Sound prism cell → cell .level ≡ HIGHEST → Owner P vs ws r cell
   pub from-none : boundary P ws 0 ≡ 0
   pub rising : (s : ℕ) → boundary P ws s ≤ boundary P ws (s + 1)
   pub to-all : boundary P ws P ≡ length vs
@@ -40,11 +40,11 @@ pub record Divided (K P : ℕ) (vs : List Leaf) (ws : List ℕ) : Type 0 where
   pub not-far-below : (s : ℕ) → s < P → total ws < P * weight P ws s + P * heaviest ws
 
 pub record OfGrids : Type 0 where
-  pub of-valid : (K P : ℕ) (vs : List Leaf) (ws : List ℕ) → 0 < K → Valid 8 21 K vs → length ws ≡ length vs → Weighty ws → 0 < P
+  pub of-valid : (K P : ℕ) (vs : List Leaf) (ws : List ℕ) → 0 < K → Valid CHILDREN HIGHEST K vs → length ws ≡ length vs → Weighty ws → 0 < P
       → Divided K P vs ws
-  pub of-loaded : (bytes : List ℕ) (equal : Bool) (room : ℕ) (g : Grid) (P : ℕ) (ws : List ℕ) → reading 8 21 bytes equal room ≡ accepted g
+  pub of-loaded : (bytes : List ℕ) (m : Columns) (g : Grid) (P : ℕ) (ws : List ℕ) → read CHILDREN HIGHEST bytes m ≡ accepted g
       → length ws ≡ length (g .leaves) → Weighty ws → 0 < P → Divided (g .roots) P (g .leaves) ws
-  pub of-reached : (K s P : ℕ) (vs : List Leaf) (ws : List ℕ) → Reached 8 21 K s vs → length ws ≡ length vs → Weighty ws → 0 < P
+  pub of-reached : (K s P : ℕ) (vs : List Leaf) (ws : List ℕ) → Reached CHILDREN HIGHEST K s vs → length ws ≡ length vs → Weighty ws → 0 < P
       → Divided K P vs ws
-  pub of-accepted : (K P : ℕ) (roots levels positions weights : List ℕ) (room : ℕ)
-      → shares 8 21 K P roots levels positions weights room ≡ passed → Divided K P (leaves roots levels positions) weights
+  pub of-accepted : (K P : ℕ) (cs : Columns) (ws column boundaries : List ℕ) → shares CHILDREN HIGHEST K P cs ws column ≡ accepted boundaries
+      → Divided K P (leaves cs) ws

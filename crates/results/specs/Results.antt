@@ -19,7 +19,7 @@ use Rattle.line.specs.declared.Line.{Line}
 use Rattle.triangle.specs.declared.Triangle.{Triangle}
 use Rattle.prism.specs.declared.Prism.{Prism}
 use Rattle.corners.specs.declared.Point.{Point}
-use Rattle.gridfile.specs.Readings.{Size, size}
+use Rattle.reader.specs.Answers.{Size, size}
 use Rattle.results.specs.declared.LineResult.{LineResult}
 use Rattle.results.specs.declared.TriangleResult.{TriangleResult}
 use Rattle.results.specs.declared.PrismResult.{PrismResult}

@@ -1,7 +1,7 @@
 // From an answer to what goes over the C interface: a refusal's word and the value beside it. `specs/Results.antt` says how.
 use corners::Point;
 use corners::PointAnswer;
-use gridfile::GridAnswer;
+use reader::GridAnswer;
 use line::Line;
 use line::LineAnswer;
 use paper::CompareAnswer;
@@ -19,7 +19,7 @@ ghost use Rattle.corners.specs.CornerPoints.{pointOf};
 ghost use Rattle.line.specs.Elements as lines;
 ghost use Rattle.triangle.specs.Elements as triangles;
 ghost use Rattle.prism.specs.Elements as prisms;
-ghost use Rattle.gridfile.specs.Readings.{gridOf};
+ghost use Rattle.reader.specs.Answers.{gridOf};
 ghost use Rattle.results.specs.Results.{lineResult, triangleResult, prismResult, numberResult, truthResult, compareResult, passResult, gridResult, pointResult};
 
 #[repr(C)]

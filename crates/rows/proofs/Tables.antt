@@ -1,8 +1,10 @@
 -- The two rows of four hold each of the eight steps exactly once, and keep a triangle inside its parent: eight entries, computed.
 -- Assumes nothing.
 use mathlib.Core.Path.{_≡_, refl}
-use Prim.Native.Nat.{ℕ, _+_, _*_, _≤_, _<_}
+use Prim.Native.Nat.{ℕ, _+_, _*_, _%_, _≤_, _<_}
+use native.Mathlib.Nat.{mod-lt}
 use native.Mathlib.Omega.{arith}
+use lib.Dec.{lit<}
 use Rattle.tree.proofs.Cases.{below-2, below-3, below-4, below-5}
 use Rattle.rows.specs.declared.Step.{Step}
 use Rattle.rows.specs.Rows.{step, childRow, parentKind, numberOf, faceRow}
@@ -39,6 +41,10 @@ Small s = (s .x < 2) × ((s .y < 2) × (s .kind < 2))
 pub childRow-small : (t i : ℕ) → t < 2 → i < 4 → Small (childRow t i)
 childRow-small =
     each-child (λ (t i : ℕ). Small (childRow t i)) (omega arith) (omega arith) (omega arith) (omega arith) (omega arith) (omega arith) (omega arith) (omega arith)
+
+-- as the code reads it
+pub row-small : (t i : ℕ) (s : Step) → s ≡ childRow (t % 2) (i % 4) → Small s
+row-small t i s read = rw read (childRow-small (t % 2) (i % 4) (mod-lt t (lit< tt)) (mod-lt i (lit< tt)))
 
 pub parentKind-child : (t i : ℕ) → t < 2 → i < 4 → parentKind (childRow t i) ≡ t
 unfolding parentKind

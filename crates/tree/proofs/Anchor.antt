@@ -4,6 +4,7 @@ use mathlib.Core.Path.{_≡_, refl, ap, _∙_, sym, subst}
 use mathlib.Core.Bool.{Bool, true, false, not}
 use Prim.Native.Nat.{ℕ, suc, _+_, _-_, _*_, _/_, _%_, _^_, _≤_, _<_}
 use native.Mathlib.Nat.{zero-mul, one-mul, mul-le-mul-right, mod-eq-of-lt, lt-of-le-of-lt, div-mul-le-self, pow-suc, mul-comm, mul-div-cancel, mul-div-mul-right, mul-mod-left, div-add-mod', div-lt-iff-lt-mul, mul-lt-mul-of-pos-right, mod-lt, add-sub-of-le}
+use native.Mathlib.Numerals.{add-one}
 use native.Mathlib.Omega.{arith}
 use lib.Dec.{leb, eqb}
 use lib.Pow.{pow-pos, pow-mono, pow-add}
@@ -80,6 +81,14 @@ module _ (L : ℕ) where
   end-inside l x shallow on =
       let whole : suc (x / side L l) * side L l ≤ 2 ^ l * side L l = mul-le-mul-right (side L l) (units-lt l x shallow on) in
       omega (arith, grid-units l x on, side-edge l shallow)
+
+  -- a step to a child, of at most one side of the next level, stays within the edge
+  pub half-inside : (l x b h : ℕ) → h ≡ side L (l + 1) → l < L → offGrid L l x ≡ false → b < 2 → (b * h ≤ 2 ^ L) × (x + b * h ≤ 2 ^ L)
+  half-inside l x b h sized room on small =
+      let part : b * h ≤ 1 * h = mul-le-mul-right h (omega arith) in
+      let half : side L l ≡ 2 * h = side-suc l room ∙ ap (λ (k : ℕ). 2 * side L k) (sym (add-one l)) ∙ ap (λ (k : ℕ). 2 * k) (sym sized) in
+      let inside = end-inside l x (omega arith) on in
+      (omega arith, omega arith)
 
   -- level 0 has one coordinate, and it is a coordinate of every level
   pub grid-zero : (x : ℕ) → offGrid L 0 x ≡ false → x ≡ 0

@@ -4,6 +4,7 @@ pub mod Anchor
 pub mod Move
 pub mod RoundTrip
 pub mod Descent
+pub mod Ancestors
 pub mod Ordering
 pub mod Family
 pub mod Walk

@@ -3,3 +3,4 @@ pub mod Shape
 pub mod Words
 pub mod Calls
 pub mod Laws
+pub mod Ancestors

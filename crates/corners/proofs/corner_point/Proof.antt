@@ -16,7 +16,7 @@ use Rattle.corners.specs.declared.Root.{Root}
 use Rattle.corners.specs.declared.work.Local.{Local}
 use Rattle.corners.specs.CornerPoints.{rootWithin, pointAt}
 use Rattle.corners.specs.Laws.{InsideRoot}
-use Rattle.corners.specs.Steps.{cornerOf}
+use Rattle.corners.specs.Inner.{cornerOf}
 use Rattle.corners.proofs.LocalCorners.{corner-inside}
 use Rattle.corners.proofs.Call.{point-refused-1, point-refused-5, point-refused-8, point-refused-24, point-accepted, element-is, element-never, element-sound}
 use Rattle.corners.proofs.corner_point.Statement.{statement}

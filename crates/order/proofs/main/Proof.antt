@@ -4,6 +4,7 @@ use mathlib.Core.Path.{sym}
 use native.Mathlib.Nat.{le-of-eq}
 use lib.ListN.{length-replicate}
 use borrow.Author.Needs.{needs}
+use Rattle.text.specs.Text.{longestOutput}
 use Rattle.orders.proofs.Program.{answer-within, answer-prefix, answer-never-14}
 use Rattle.order.proofs.main.Statement.{statement}
 use Rattle.order.proofs.main.Tie as tie
@@ -42,7 +43,7 @@ enum-told : tie.Need-enum-told
 enum-told c = search needs
 
 never-requires : tie.Need-never-requires
-never-requires c κs = answer-never-14 _ _ _ (c .before .before .before .answer .result) _ _ (c .before .before .before .answer .ensures) (c .enum-told .given .1) (le-of-eq (sym (length-replicate {A = ℕ} 86212 0)))
+never-requires c κs = answer-never-14 _ _ _ (c .before .before .before .answer .result) _ _ (c .before .before .before .answer .ensures) (c .enum-told .given .1) (le-of-eq (sym (length-replicate {A = ℕ} longestOutput 0)))
 
 returns : tie.Need-returns
 returns c = search needs

@@ -2,8 +2,8 @@
 use mathlib.Core.Path.{ap, _∙_, sym}
 use Prim.Native.Nat.{ℕ}
 use borrow.Author.Needs.{needs}
-use Rattle.gridfile.specs.Readings.{gridOf}
-use Rattle.gridfile.specs.declared.GridAnswer.{GridAnswer}
+use Rattle.reader.specs.Answers.{gridOf}
+use Rattle.reader.specs.declared.GridAnswer.{GridAnswer}
 use Rattle.results.specs.Results.{gridResult}
 use Rattle.results.proofs.of_grid.Statement.{statement}
 use Rattle.results.proofs.of_grid.Tie as tie

@@ -4,7 +4,7 @@ use lib.Ieee.{Float}
 use borrow.Author.Needs.{needs}
 use Rattle.corners.specs.declared.work.Axis.{Axis}
 use Rattle.corners.specs.CornerPoints.{q, coordinate}
-use Rattle.corners.specs.Steps.{along, Near}
+use Rattle.corners.specs.Inner.{along, Near}
 use Rattle.corners.proofs.Roots.{near-xs, near-ys, near-zs}
 use Rattle.corners.proofs.work.placed.Statement.{statement}
 use Rattle.corners.proofs.work.placed.Tie as tie

@@ -5,7 +5,7 @@ use lib.Dec.{lit≤}
 use lib.IntN.{ℤ, natAbs}
 use mir.Syntax.{w64}
 use mir.Val.{toZ, ofZ}
-use Rattle.corners.specs.Steps.{mix, blend}
+use Rattle.corners.specs.Inner.{mix, blend}
 use Rattle.corners.proofs.Offsets.{height, axis-bound}
 use Rattle.corners.proofs.MachineWords.{kept}
 use Rattle.corners.proofs.work.scaled.Statement.{statement}

@@ -1,26 +1,12 @@
--- `gw_order` meets its contract: the result of the call's outcome, and the buffer of the call. Assumes nothing.
-use mathlib.Core.Path.{_≡_, ap, _∙_}
-use mathlib.Core.List.{List}
-use Prim.Native.Nat.{ℕ}
+-- `gw_order` meets its contract: the result of the call's outcome, and the memory that the call leaves. Assumes nothing.
+use lib.ListN.{length}
 use borrow.Author.Needs.{needs}
-use Rattle.paper.specs.Outcome.{Outcome}
-use Rattle.paper.specs.Memory.{lent}
+use Rattle.paper.specs.Memory.{written}
 use Rattle.paper.specs.Readings.{valueOf}
-use Rattle.paper.specs.declared.NumberAnswer.{NumberAnswer}
-use Rattle.orders.specs.Calls.{output, Answered}
-use Rattle.results.specs.declared.NumberResult.{NumberResult}
+use Rattle.paper.proofs.Memory.{carried}
 use Rattle.results.specs.Results.{numberResult}
-use Rattle.interface.specs.Printing.{PrintedResult}
 use Rattle.interface.proofs.order_calls.gw_order.Statement.{statement}
 use Rattle.interface.proofs.order_calls.gw_order.Tie as tie
-
-carried : {r : NumberResult} {input buffer buffer′ : List ℕ} (a : NumberAnswer) → Answered a input buffer buffer′ → r ≡ numberResult (valueOf a)
-    → PrintedResult r input buffer buffer′
-carried {r} {input} {buffer} {buffer′} a call e =
-    record {
-      result = e ∙ ap numberResult (call .answer);
-      written = call .written ∙ ap (λ (o : Outcome ℕ). lent o (output input) buffer) (call .answer);
-    }
 
 answer-requires : tie.Need-answer-requires
 answer-requires c κs = search needs
@@ -32,7 +18,7 @@ same-length : tie.Need-same-length
 same-length c = search needs
 
 returns : tie.Need-returns
-returns c = carried (c .before .before .before .answer .result) (c .before .before .before .answer .ensures) (c .of-number .ensures)
+returns c = carried valueOf length written _ numberResult _ _ _ _ (c .of-number .ensures) (c .before .before .before .answer .ensures)
 
 pub gw-order-spec : {M : Type 1} → statement M
 gw-order-spec = tie.close (tie.spec answer-requires of-number-requires same-length returns)

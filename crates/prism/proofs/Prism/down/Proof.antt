@@ -1,80 +1,131 @@
--- `Prism::down` meets its contract: the triangle's part and the line's, side by side. Assumes nothing.
-use mathlib.Core.Path.{ap, ap₂, _∙_}
-use Prim.Native.Nat.{_/_, _%_}
+-- `Prism::down` meets its contract: a step to a child, of at most half a side, stays within the edge. Assumes nothing.
+use mathlib.Core.Path.{_≡_, ap, ap₂, _∙_}
+use Prim.Native.Nat.{ℕ, suc, _+_, _*_, _/_, _%_}
 use native.Mathlib.Omega.{arith}
+use native.Mathlib.Nat.{mod-eq-of-lt}
+use native.Mathlib.Numerals.{add-one}
 use borrow.Author.Needs.{needs}
-use Rattle.line.specs.declared.Line.{Line}
-use Rattle.line.specs.Elements.{line, lineTo}
-use Rattle.triangle.specs.declared.Triangle.{Triangle}
-use Rattle.triangle.specs.Elements.{triangle, triangleTo}
-use Rattle.tree.proofs.Call.{child-accepted}
-use Rattle.tree.specs.Calls
-use Rattle.prism.specs.Elements.{prismTo, plan, upright, product}
-use Rattle.prism.proofs.Laws.{triangle-sound, line-sound}
-use Rattle.prism.proofs.Parts.{triangle-is, line-is, triangle-never, line-never}
+use Rattle.tree.specs.Anchors.{side}
+use Rattle.tree.proofs.Anchor.{half-inside}
+use Rattle.rows.specs.declared.Step.{Step}
+use Rattle.rows.specs.Rows.{childRow}
+use Rattle.rows.proofs.Tables.{row-small}
+use Rattle.prism.specs.Elements.{prismTo}
+use Rattle.prism.proofs.Laws.{prism-path, grids}
 use Rattle.prism.proofs.Prism.down.Statement.{statement}
 use Rattle.prism.proofs.Prism.down.Tie as tie
 
-plan-requires : tie.Need-plan-requires
-plan-requires c κs = search needs
+add-level : tie.Need-add-level
+add-level c = search needs
 
-child-requires : tie.Need-child-requires
-child-requires c κs = search needs
+side-requires : tie.Need-side-requires
+side-requires c κs = search needs
 
-enum-known-t : tie.Need-enum-known-t
-enum-known-t c = search needs
+child-row-requires : tie.Need-child-row-requires
+child-row-requires c κs = search needs
 
-enum-told : tie.Need-enum-told
-enum-told c = search needs
+cast-t6 : tie.Need-cast-t6
+cast-t6 c = search needs
+
+mul-t7 : tie.Need-mul-t7
+unfolding prismTo
+mul-t7 c =
+    let a = c .before .before .before .before .args in
+    let on = grids 21 (a .self) (c .before .before .before .before .pre .0) in
+    let s = c .before .child-row in
+    let bits = row-small (a .self .kind) (a .number) (s .result) (s .ensures) in
+    let h = c .before .before .side in
+    let room = half-inside 21 (a .self .level) (a .self .x) (s .result .x) (h .result) (h .ensures) (c .before .before .before .before .pre .1 .0) (on .0 .grid-x) (bits .0) in
+    omega arith
+
+add-t8 : tie.Need-add-t8
+unfolding prismTo
+add-t8 c =
+    let a = c .before .before .before .before .before .args in
+    let on = grids 21 (a .self) (c .before .before .before .before .before .pre .0) in
+    let s = c .before .before .child-row in
+    let bits = row-small (a .self .kind) (a .number) (s .result) (s .ensures) in
+    let h = c .before .before .before .side in
+    let room = half-inside 21 (a .self .level) (a .self .x) (s .result .x) (h .result) (h .ensures) (c .before .before .before .before .before .pre .1 .0) (on .0 .grid-x) (bits .0) in
+    omega arith
+
+cast-t9 : tie.Need-cast-t9
+cast-t9 c = search needs
+
+mul-t10 : tie.Need-mul-t10
+unfolding prismTo
+mul-t10 c =
+    let a = c .before .before .before .before .before .before .args in
+    let on = grids 21 (a .self) (c .before .before .before .before .before .before .pre .0) in
+    let s = c .before .before .before .child-row in
+    let bits = row-small (a .self .kind) (a .number) (s .result) (s .ensures) in
+    let h = c .before .before .before .before .side in
+    let room = half-inside 21 (a .self .level) (a .self .y) (s .result .y) (h .result) (h .ensures) (c .before .before .before .before .before .before .pre .1 .0) (on .0 .grid-y) (bits .1 .0) in
+    omega arith
+
+add-t11 : tie.Need-add-t11
+unfolding prismTo
+add-t11 c =
+    let a = c .before .before .before .before .before .before .before .args in
+    let on = grids 21 (a .self) (c .before .before .before .before .before .before .before .pre .0) in
+    let s = c .before .before .before .before .child-row in
+    let bits = row-small (a .self .kind) (a .number) (s .result) (s .ensures) in
+    let h = c .before .before .before .before .before .side in
+    let room = half-inside 21 (a .self .level) (a .self .y) (s .result .y) (h .result) (h .ensures) (c .before .before .before .before .before .before .before .pre .1 .0) (on .0 .grid-y) (bits .1 .0) in
+    omega arith
+
+cast-t13 : tie.Need-cast-t13
+cast-t13 c = search needs
+
+mul-t14 : tie.Need-mul-t14
+unfolding prismTo
+mul-t14 c =
+    let a = c .before .before .before .before .before .before .before .args in
+    let on = grids 21 (a .self) (c .before .before .before .before .before .before .before .pre .0) in
+    let h = c .before .before .before .before .before .side in
+    let room = half-inside 21 (a .self .level) (a .self .z) (a .number / 4) (h .result) (h .ensures) (c .before .before .before .before .before .before .before .pre .1 .0) (on .1) (omega (arith, c .before .before .before .before .before .before .before .pre .1 .1)) in
+    omega arith
+
+add-t15 : tie.Need-add-t15
+unfolding prismTo
+add-t15 c =
+    let a = c .before .before .before .before .before .before .before .before .args in
+    let on = grids 21 (a .self) (c .before .before .before .before .before .before .before .before .pre .0) in
+    let h = c .before .before .before .before .before .before .side in
+    let room = half-inside 21 (a .self .level) (a .self .z) (a .number / 4) (h .result) (h .ensures) (c .before .before .before .before .before .before .before .before .pre .1 .0) (on .1) (omega (arith, c .before .before .before .before .before .before .before .before .pre .1 .1)) in
+    omega arith
 
 returns : tie.Need-returns
-unfolding prismTo triangleTo lineTo
+unfolding prismTo
 returns c =
-    let plan = c .before .before .child .ensures ∙ ap (λ (t : Triangle). Calls.child triangle t (c .before .before .before .before .args .number % 4)) (c .before .before .before .plan .ensures) ∙ child-accepted triangle (plan (c .before .before .before .before .args .self)) (triangle-sound 21 (c .before .before .before .before .args .self) (c .before .before .before .before .pre .0)) (c .before .before .before .before .args .number % 4) (c .before .before .before .before .pre .1 .0) (omega arith) in
-    triangle-never (c .before .before .child .result) _ _ _ (c .enum-told .given .1) plan
-
-upright-requires : tie.Need-upright-requires
-upright-requires c κs = search needs
-
-child-requires-2 : tie.Need-child-requires-2
-child-requires-2 c κs = search needs
-
-enum-known-m : tie.Need-enum-known-m
-enum-known-m c = search needs
-
-enum-told-2 : tie.Need-enum-told-2
-enum-told-2 c = search needs
-
-returns-2 : tie.Need-returns-2
-unfolding prismTo triangleTo lineTo
-returns-2 c =
-    let upright = c .before .before .child2 .ensures ∙ ap (λ (m : Line). Calls.child line m (c .before .before .before .before .before .before .before .before .before .args .number / 4)) (c .before .before .before .upright .ensures) ∙ child-accepted line (upright (c .before .before .before .before .before .before .before .before .before .args .self)) (line-sound 21 (c .before .before .before .before .before .before .before .before .before .args .self) (c .before .before .before .before .before .before .before .before .before .pre .0)) (c .before .before .before .before .before .before .before .before .before .args .number / 4) (c .before .before .before .before .before .before .before .before .before .pre .1 .0) (omega (arith, c .before .before .before .before .before .before .before .before .before .pre .1 .1)) in
-    line-never (c .before .before .child2 .result) _ _ _ (c .enum-told2 .given .1) upright
-
-product-requires : tie.Need-product-requires
-product-requires c κs = search needs
-
-returns-3 : tie.Need-returns-3
-unfolding prismTo triangleTo lineTo
-returns-3 c =
-    let plan = c .before .before .before .before .before .before .before .before .before .child .ensures ∙ ap (λ (t : Triangle). Calls.child triangle t (c .before .before .before .before .before .before .before .before .before .before .before .args .number % 4)) (c .before .before .before .before .before .before .before .before .before .before .plan .ensures) ∙ child-accepted triangle (plan (c .before .before .before .before .before .before .before .before .before .before .before .args .self)) (triangle-sound 21 (c .before .before .before .before .before .before .before .before .before .before .before .args .self) (c .before .before .before .before .before .before .before .before .before .before .before .pre .0)) (c .before .before .before .before .before .before .before .before .before .before .before .args .number % 4) (c .before .before .before .before .before .before .before .before .before .before .before .pre .1 .0) (omega arith) in
-    let upright = c .before .before .before .before .child2 .ensures ∙ ap (λ (m : Line). Calls.child line m (c .before .before .before .before .before .before .before .before .before .before .before .args .number / 4)) (c .before .before .before .before .before .upright .ensures) ∙ child-accepted line (upright (c .before .before .before .before .before .before .before .before .before .before .before .args .self)) (line-sound 21 (c .before .before .before .before .before .before .before .before .before .before .before .args .self) (c .before .before .before .before .before .before .before .before .before .before .before .pre .0)) (c .before .before .before .before .before .before .before .before .before .before .before .args .number / 4) (c .before .before .before .before .before .before .before .before .before .before .before .pre .1 .0) (omega (arith, c .before .before .before .before .before .before .before .before .before .before .before .pre .1 .1)) in
-    c .product .ensures
-    ∙ ap₂ product (triangle-is (c .before .before .before .before .before .before .before .before .before .child .result) _ _ (c .before .before .before .before .before .before .before .t .given .1) plan) (line-is (c .before .before .before .before .child2 .result) _ _ (c .before .before .m .given .1) upright)
+    let a = c .before .before .before .before .before .before .before .before .args in
+    let on = grids 21 (a .self) (c .before .before .before .before .before .before .before .before .pre .0) in
+    let s = c .before .before .before .before .before .child-row in
+    let h = c .before .before .before .before .before .before .side in
+    let sized : h .result ≡ side 21 (suc (a .self .level)) = h .ensures ∙ ap (side 21) (add-one (a .self .level)) in
+    let row : s .result ≡ childRow (a .self .kind) (a .number % 4) =
+    s .ensures ∙ ap (λ (t : ℕ). childRow t (a .number % 4)) (mod-eq-of-lt (on .0 .typed)) in
+    prism-path _ _
+    (ap₂ (λ (q : Step) (m : ℕ). a .self .x + q .x * m) row sized)
+    (ap₂ (λ (q : Step) (m : ℕ). a .self .y + q .y * m) row sized)
+    (ap (λ (m : ℕ). a .self .z + a .number / 4 * m) sized)
+    (add-one (a .self .level))
+    (ap (λ (q : Step). q .kind) row)
 
 pub down-spec : {M : Type 1} → statement M
 down-spec =
     tie.close
     (tie.spec
-    plan-requires
-    child-requires
-    enum-known-t
-    enum-told
-    returns
-    upright-requires
-    child-requires-2
-    enum-known-m
-    enum-told-2
-    returns-2
-    product-requires
-    returns-3)
+    add-level
+    side-requires
+    child-row-requires
+    cast-t6
+    mul-t7
+    add-t8
+    cast-t9
+    mul-t10
+    add-t11
+    cast-t13
+    mul-t14
+    add-t15
+    returns)

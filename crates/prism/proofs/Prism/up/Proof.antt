@@ -1,79 +1,57 @@
--- `Prism::up` meets its contract: the triangle's part and the line's, side by side. Assumes nothing.
-use mathlib.Core.Path.{ap, ap₂, _∙_}
-use native.Mathlib.Omega.{arith}
+-- `Prism::up` meets its contract: the triangle's parent and the line's, side by side. Assumes nothing.
+use mathlib.Core.Path.{refl, ap, _∙_}
+use Prim.Native.Nat.{ℕ, _/_, _%_}
+use native.Mathlib.Nat.{mod-eq-of-lt, mod-mod}
 use borrow.Author.Needs.{needs}
-use Rattle.line.specs.declared.Line.{Line}
-use Rattle.line.specs.Elements.{line, lineTo}
-use Rattle.triangle.specs.declared.Triangle.{Triangle}
-use Rattle.triangle.specs.Elements.{triangle, triangleTo}
-use Rattle.tree.proofs.Call.{parent-accepted}
-use Rattle.tree.specs.Calls
-use Rattle.prism.specs.Elements.{prismTo, plan, upright, product}
-use Rattle.prism.proofs.Laws.{triangle-sound, line-sound}
-use Rattle.prism.proofs.Parts.{triangle-is, line-is, triangle-never, line-never}
+use Rattle.tree.specs.Anchors.{side}
+use Rattle.rows.specs.declared.Slot.{Slot}
+use Rattle.rows.specs.Rows.{parentKind}
+use Rattle.rows.proofs.Tables.{step-path}
+use Rattle.prism.specs.Elements.{prismTo}
+use Rattle.prism.proofs.Laws.{prism-path, grids}
 use Rattle.prism.proofs.Prism.up.Statement.{statement}
 use Rattle.prism.proofs.Prism.up.Tie as tie
 
-plan-requires : tie.Need-plan-requires
-plan-requires c κs = search needs
+sub-level : tie.Need-sub-level
+sub-level c = search needs
 
-parent-requires : tie.Need-parent-requires
-parent-requires c κs = search needs
+bit-requires : tie.Need-bit-requires
+bit-requires c κs = search needs
 
-enum-known-t : tie.Need-enum-known-t
-enum-known-t c = search needs
+bit-requires-2 : tie.Need-bit-requires-2
+bit-requires-2 c κs = search needs
 
-enum-told : tie.Need-enum-told
-enum-told c = search needs
+slot-of-requires : tie.Need-slot-of-requires
+slot-of-requires c κs = search needs
+
+rounded-requires : tie.Need-rounded-requires
+rounded-requires c κs = search needs
+
+rounded-requires-2 : tie.Need-rounded-requires-2
+rounded-requires-2 c κs = search needs
+
+rounded-requires-3 : tie.Need-rounded-requires-3
+rounded-requires-3 c κs = search needs
 
 returns : tie.Need-returns
-unfolding prismTo triangleTo lineTo
+unfolding prismTo
 returns c =
-    let plan = c .before .before .parent .ensures ∙ ap (λ (t : Triangle). Calls.parent triangle t) (c .before .before .before .plan .ensures) ∙ parent-accepted triangle (plan (c .before .before .before .before .args .self)) (triangle-sound 21 (c .before .before .before .before .args .self) (c .before .before .before .before .pre .0)) (λ flat. omega (arith, c .before .before .before .before .pre .1, flat)) in
-    triangle-never (c .before .before .parent .result) _ _ _ (c .enum-told .given .1) plan
-
-upright-requires : tie.Need-upright-requires
-upright-requires c κs = search needs
-
-parent-requires-2 : tie.Need-parent-requires-2
-parent-requires-2 c κs = search needs
-
-enum-known-m : tie.Need-enum-known-m
-enum-known-m c = search needs
-
-enum-told-2 : tie.Need-enum-told-2
-enum-told-2 c = search needs
-
-returns-2 : tie.Need-returns-2
-unfolding prismTo triangleTo lineTo
-returns-2 c =
-    let upright = c .before .before .parent2 .ensures ∙ ap (λ (m : Line). Calls.parent line m) (c .before .before .before .upright .ensures) ∙ parent-accepted line (upright (c .before .before .before .before .before .before .before .before .before .args .self)) (line-sound 21 (c .before .before .before .before .before .before .before .before .before .args .self) (c .before .before .before .before .before .before .before .before .before .pre .0)) (λ flat. omega (arith, c .before .before .before .before .before .before .before .before .before .pre .1, flat)) in
-    line-never (c .before .before .parent2 .result) _ _ _ (c .enum-told2 .given .1) upright
-
-product-requires : tie.Need-product-requires
-product-requires c κs = search needs
-
-returns-3 : tie.Need-returns-3
-unfolding prismTo triangleTo lineTo
-returns-3 c =
-    let plan = c .before .before .before .before .before .before .before .before .before .parent .ensures ∙ ap (λ (t : Triangle). Calls.parent triangle t) (c .before .before .before .before .before .before .before .before .before .before .plan .ensures) ∙ parent-accepted triangle (plan (c .before .before .before .before .before .before .before .before .before .before .before .args .self)) (triangle-sound 21 (c .before .before .before .before .before .before .before .before .before .before .before .args .self) (c .before .before .before .before .before .before .before .before .before .before .before .pre .0)) (λ flat. omega (arith, c .before .before .before .before .before .before .before .before .before .before .before .pre .1, flat)) in
-    let upright = c .before .before .before .before .parent2 .ensures ∙ ap (λ (m : Line). Calls.parent line m) (c .before .before .before .before .before .upright .ensures) ∙ parent-accepted line (upright (c .before .before .before .before .before .before .before .before .before .before .before .args .self)) (line-sound 21 (c .before .before .before .before .before .before .before .before .before .before .before .args .self) (c .before .before .before .before .before .before .before .before .before .before .before .pre .0)) (λ flat. omega (arith, c .before .before .before .before .before .before .before .before .before .before .before .pre .1, flat)) in
-    c .product .ensures
-    ∙ ap₂ product (triangle-is (c .before .before .before .before .before .before .before .before .before .parent .result) _ _ (c .before .before .before .before .before .before .before .t .given .1) plan) (line-is (c .before .before .before .before .parent2 .result) _ _ (c .before .before .m .given .1) upright)
+    let a = c .before .before .before .before .before .before .before .args .self in
+    let typed = grids 21 a (c .before .before .before .before .before .before .before .pre .0) .0 .typed in
+    let at-x = ap (λ (k : ℕ). k % 2) (c .before .before .before .before .before .bit .ensures) ∙ mod-mod (a .x / side 21 (a .level)) 2 in
+    let at-y = ap (λ (k : ℕ). k % 2) (c .before .before .before .before .bit2 .ensures) ∙ mod-mod (a .y / side 21 (a .level)) 2 in
+    prism-path _ _ (c .before .before .rounded .ensures) (c .before .rounded2 .ensures) (c .rounded3 .ensures) refl
+    (ap (λ (s : Slot). s .kind) (c .before .before .before .slot-of .ensures) ∙ ap parentKind (step-path _ _ _ _ _ _ at-x at-y (mod-eq-of-lt typed)))
 
 pub up-spec : {M : Type 1} → statement M
 up-spec =
     tie.close
     (tie.spec
-    plan-requires
-    parent-requires
-    enum-known-t
-    enum-told
-    returns
-    upright-requires
-    parent-requires-2
-    enum-known-m
-    enum-told-2
-    returns-2
-    product-requires
-    returns-3)
+    sub-level
+    bit-requires
+    bit-requires-2
+    slot-of-requires
+    rounded-requires
+    rounded-requires-2
+    rounded-requires-3
+    returns)

@@ -1,0 +1,64 @@
+-- Inner contracts: what the code's own functions ask and answer. A reader of the promises may skip this file.
+--
+--   Axis            one coordinate of a root's six corners; along a j is its vj; xs, ys, zs are a root's three
+--   Local           local (X, Y, Z); localOf and cornerOf go from the prism's corner to it and back
+--   CornerRow       where a corner of a triangle lies, counted in sides from the anchor
+--   Near            the six numbers are from -512 to 512
+--   mix, Heights    one Tj from its two corners; what is known of the three: from -2^30 to 2^30
+--   blend           Q from the three
+--
+-- Assumes nothing.
+use mathlib.Core.Path.{_≡_}
+use mathlib.Core.List.{[], _∷_}
+use Prim.Native.Nat.{ℕ, _+_, _*_, _/_, _%_, _^_, _≤_}
+use lib.IntN.{ℤ, pos, natAbs, _+ℤ_, _-ℤ_, _*ℤ_}
+use lib.ListN.{getD}
+use Rattle.tree.specs.Anchors.{EDGE}
+use Rattle.triangle.specs.Points.{point, cornersBy}
+use Rattle.prism.specs.Points.{lifted}
+use Rattle.prism.specs.Points as prisms
+use Rattle.corners.specs.declared.Root.{Root}
+use Rattle.corners.specs.declared.work.Axis.{Axis}
+use Rattle.corners.specs.declared.work.Local.{Local}
+
+abbrev pub along : Axis → ℕ → ℤ
+along a j = getD (a .v0 ∷ a .v1 ∷ a .v2 ∷ a .v3 ∷ a .v4 ∷ a .v5 ∷ []) j (a .v0)
+
+pub record Near (a : Axis) : Type 0 where
+  pub near0 : natAbs (a .v0) ≤ 512
+  pub near1 : natAbs (a .v1) ≤ 512
+  pub near2 : natAbs (a .v2) ≤ 512
+  pub near3 : natAbs (a .v3) ≤ 512
+  pub near4 : natAbs (a .v4) ≤ 512
+  pub near5 : natAbs (a .v5) ≤ 512
+
+abbrev pub mix : ℤ → ℤ → ℕ → ℤ
+mix low high Z = pos EDGE *ℤ low +ℤ (high -ℤ low) *ℤ pos Z
+
+pub record Heights (t0 t1 t2 : ℤ) : Type 0 where
+  pub tall0 : natAbs t0 ≤ 2 ^ 30
+  pub tall1 : natAbs t1 ≤ 2 ^ 30
+  pub tall2 : natAbs t2 ≤ 2 ^ 30
+
+abbrev pub blend : ℤ → ℤ → ℤ → ℕ → ℕ → ℤ
+blend t0 t1 t2 X Y = mix t0 t1 X +ℤ (t2 -ℤ t1) *ℤ pos Y
+
+abbrev pub xs : Root → Axis
+xs r = record { v0 = r .v0 .x; v1 = r .v1 .x; v2 = r .v2 .x; v3 = r .v3 .x; v4 = r .v4 .x; v5 = r .v5 .x }
+
+abbrev pub ys : Root → Axis
+ys r = record { v0 = r .v0 .y; v1 = r .v1 .y; v2 = r .v2 .y; v3 = r .v3 .y; v4 = r .v4 .y; v5 = r .v5 .y }
+
+abbrev pub zs : Root → Axis
+zs r = record { v0 = r .v0 .z; v1 = r .v1 .z; v2 = r .v2 .z; v3 = r .v3 .z; v4 = r .v4 .z; v5 = r .v5 .z }
+
+-- corner k of a triangle of type t lies s / 2 sides along x and s % 2 along y from the anchor
+pub record CornerRow (t k s : ℕ) : Type 0 where
+  pub narrow : s ≤ 3
+  pub placed : (h x y : ℕ) → getD (cornersBy t h x y) k (point 0 0) ≡ point (x + s / 2 * h) (y + s % 2 * h)
+
+abbrev pub localOf : prisms.Corner → Local
+localOf c = record { x = c .plan .x; y = c .plan .y; z = c .height }
+
+abbrev pub cornerOf : Local → prisms.Corner
+cornerOf p = lifted (p .z) (point (p .x) (p .y))

@@ -1,0 +1,6 @@
+pub mod Cursor
+pub mod Numbers
+pub mod Cutting
+pub mod Coming
+pub mod Onward
+pub mod FirstBytes

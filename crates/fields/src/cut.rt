@@ -1,0 +1,48 @@
+// Where the fields of a line begin and end.
+ghost use mathlib.Core.Path.{_≡_};
+ghost use Prim.Native.Nat.{_+_};
+ghost use lib.ListN.{length, drop};
+ghost use Rattle.fields.specs.Inner.{piece, next, closes};
+
+// Where the field that begins at `at` ends: at the next semicolon or LF, or where the input ends.
+pub fn end(input: &[u8], at: usize) -> usize
+    ensures { λ r. ⌜ r ≡ at + length (piece (drop at (now (input .entry)))) ⌝ }
+{
+    let mut i = at;
+    while i < input.len() {
+        if input[i] == 10 {
+            return i;
+        }
+        if input[i] == 59 {
+            return i;
+        }
+        i += 1;
+    }
+    i
+}
+
+// Where the field after the one that ended at `end` begins; past the input where there is none.
+pub fn after(input: &[u8], end: usize) -> usize
+    ensures { λ r. ⌜ r ≡ next (now (input .entry)) end ⌝ }
+{
+    if input.len() <= end {
+        return input.len() + 1;
+    }
+    if input[end] == 59 {
+        return end + 1;
+    }
+    input.len() + 1
+}
+
+// Whether the field that ended at `end` is followed by LF, and the LF by nothing.
+pub fn closing(input: &[u8], end: usize) -> bool
+    ensures { λ r. ⌜ r ≡ closes (now (input .entry)) end ⌝ }
+{
+    if input.len() <= end {
+        return false;
+    }
+    if end + 1 != input.len() {
+        return false;
+    }
+    input[end] == 10
+}

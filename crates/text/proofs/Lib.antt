@@ -1,0 +1,6 @@
+pub mod Writing
+pub mod Decimals
+pub mod Lines
+pub mod Sharing
+pub mod Room
+pub mod Repeating

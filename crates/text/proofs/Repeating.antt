@@ -1,0 +1,96 @@
+-- A field's number, printed, is the field: each digit read makes the number ten times as large, and each digit printed divides it by ten.
+-- Assumes nothing.
+use mathlib.Core.Path.{_≡_, refl, ap, ap₂, _∙_, sym}
+use mathlib.Core.Bool.{Bool, true, false, not, and-eq-true-iff, false≢true}
+use mathlib.Core.List.{List, [], _∷_, _++_, append-assoc, append-nil}
+use Prim.Native.Nat.{ℕ, suc, _+_, _-_, _*_, _/_, _%_, _^_, _≤_, _<_}
+use native.Mathlib.Nat.{pow-le-pow-right}
+use native.Mathlib.Omega.{arith}
+use lib.Dec.{eqb, leb}
+use lib.ListN.{length, getD}
+use borrow.Author.Tests.{leb-true, eqb-true, eqb-false, eq-eqb, ne-eqb, not-true, not-false}
+use Rattle.paper.proofs.Tests.{no-fault}
+use Rattle.fields.specs.Fields.{isDigit, allDigits, leadingZero, isNumber, valueFrom, value}
+use Rattle.forms.specs.Forms.{given, numberIn, outside, fault}
+use Rattle.text.specs.Text.{decimal}
+use Rattle.fields.proofs.Numbers.{digit-below}
+use Rattle.text.proofs.Decimals.{decimal-small, decimal-more}
+
+-- ---- a digit
+is-digit : (b : ℕ) → isDigit b ≡ true → (48 ≤ b) × (b ≤ 57)
+is-digit b is =
+    let both = and-eq-true-iff (leb 48 b) (leb b 57) .0 is in
+    (leb-true 48 b (both .0), leb-true b 57 (both .1))
+
+-- one digit more, after the number n
+digit-after : (n b : ℕ) → 1 ≤ n → n < 1000000000 → 48 ≤ b → b ≤ 57 → decimal (n * 10 + (b - 48)) ≡ decimal n ++ (b ∷ [])
+digit-after n b some small low high =
+    let tens : (n * 10 + (b - 48)) / 10 ≡ n = omega arith in
+    let last : 48 + (n * 10 + (b - 48)) % 10 ≡ b = omega arith in
+    decimal-more (n * 10 + (b - 48)) (omega arith) (omega arith) ∙ ap₂ (λ (m d : ℕ). decimal m ++ (d ∷ [])) tens last
+
+-- ---- digits after the number n, which has i digits
+digits-after : (f : List ℕ) (n i : ℕ) → allDigits f ≡ true → 1 ≤ n → n < 10 ^ i → i + length f ≤ 9 → decimal (valueFrom n f) ≡ decimal n ++ f
+unfolding allDigits valueFrom
+digits-after [] n i all some below short = sym (append-nil (decimal n))
+digits-after (b ∷ f) n i all some below short =
+    let both = and-eq-true-iff (isDigit b) (allDigits f) .0 all in
+    let digit = is-digit b (both .0) in
+    let low = digit .0 in
+    let high = digit .1 in
+    let few : i ≤ 9 = omega arith in
+    let small : 10 ^ i ≤ 10 ^ 9 = pow-le-pow-right (omega arith) few in
+    digits-after f (n * 10 + (b - 48)) (i + 1) (both .1) (omega arith) (digit-below n i (b - 48) below (omega arith)) (omega arith)
+    ∙ ap (λ (ds : List ℕ). ds ++ f) (digit-after n b some (omega arith) low high)
+    ∙ append-assoc (decimal n) (b ∷ []) f
+
+-- ---- a field, by its first digit
+first-digit : (b : ℕ) (f : List ℕ) → 48 ≤ b → b ≤ 57 → allDigits f ≡ true → 1 + length f ≤ 9 → (b ≡ 48 → f ≡ []) → decimal (value (b ∷ f)) ≡ b ∷ f
+unfolding valueFrom
+first-digit b f low high all short lone = by-digit (eqb b 48) refl
+  where
+    by-digit : (x : Bool) → eqb b 48 ≡ x → decimal (value (b ∷ f)) ≡ b ∷ f
+    by-digit true e =
+        let zero-is = eqb-true b 48 e in
+        ap₂ (λ (d : ℕ) (g : List ℕ). decimal (value (d ∷ g))) zero-is (lone zero-is) ∙ decimal-small 0 (omega arith) ∙ ap₂ (λ (d : ℕ) (g : List ℕ). d ∷ g) (sym zero-is) (sym (lone zero-is))
+    by-digit false e =
+        let other = eqb-false b 48 e in
+        let digit : 48 + (0 * 10 + (b - 48)) ≡ b = omega arith in
+        digits-after f (0 * 10 + (b - 48)) 1 all (omega (arith, other)) (omega arith) short
+        ∙ ap (λ (ds : List ℕ). ds ++ f) (decimal-small (0 * 10 + (b - 48)) (omega arith))
+        ∙ ap (λ (d : ℕ). d ∷ f) digit
+
+empty-of : (f : List ℕ) → length f ≡ 0 → f ≡ []
+empty-of [] none = refl
+empty-of (b ∷ f) none = absurd (omega arith)
+
+-- no zero in front of other digits
+lone-zero : (b : ℕ) (f : List ℕ) → leadingZero (b ∷ f) ≡ false → b ≡ 48 → f ≡ []
+lone-zero b f plain is =
+    let only : not (eqb (suc (length f)) 1) ≡ false = sym (simp (eq-eqb b 48 is)) ∙ plain in
+    let one = eqb-true (suc (length f)) 1 (not-false (eqb (suc (length f)) 1) only) in
+    empty-of f (omega (arith, one))
+
+all-parts : (b : ℕ) (f : List ℕ) → allDigits (b ∷ f) ≡ true → (48 ≤ b) × (b ≤ 57) × (allDigits f ≡ true)
+unfolding allDigits
+all-parts b f all =
+    let both = and-eq-true-iff (isDigit b) (allDigits f) .0 all in
+    let digit = is-digit b (both .0) in
+    (digit .0, digit .1, both .1)
+
+pub decimal-value : (f : List ℕ) → isNumber f ≡ true → decimal (value f) ≡ f
+decimal-value [] is = absurd (false≢true is)
+decimal-value (b ∷ f) is =
+    let some = and-eq-true-iff (leb 1 (suc (length f))) _ .0 is in
+    let few = and-eq-true-iff (leb (suc (length f)) 9) _ .0 (some .1) in
+    let rest = and-eq-true-iff (not (leadingZero (b ∷ f))) (allDigits (b ∷ f)) .0 (few .1) in
+    let digits = all-parts b f (rest .1) in
+    let short = leb-true (suc (length f)) 9 (few .0) in
+    first-digit b f (digits .0) (digits .1) (digits .2) (omega arith) (lone-zero b f (not-true (leadingZero (b ∷ f)) (rest .0)))
+
+-- ---- the fields that the first line repeats
+pub field-repeated : (fs : List (List ℕ)) (i : ℕ) → i ≤ 6 → fault fs i ≡ 0 → decimal (numberIn fs i) ≡ getD fs (i - 1) []
+field-repeated fs i early none =
+    let range = outside i (numberIn fs i) (numberIn fs 4) (numberIn fs 5) in
+    let form = no-fault (not (isNumber (given fs i))) 22 range (no-fault (leb (length fs) (i - 1)) 22 _ none .1) .0 in
+    decimal-value (given fs i) (not-false (isNumber (given fs i)) form) ∙ simp (ne-eqb i 7 (λ d. omega (arith, d)))
