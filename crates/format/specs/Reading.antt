@@ -15,11 +15,12 @@
 --   upto K c          the spot c is not past the last of K roots
 --   Walk              how far the runs of a file were read: how many runs, with how many leaves; the level of the run before, above every
 --                     level for the first run; where the list has come to; the offset of what follows
---   start i           before the first run, at offset i
+--   walkAt R N l c i  the walk with these; start i: before the first run, at offset i
 --   FoundRun, runAt   the run that follows: its level, its count, and the offset of what follows it
 --   keep w r          after the run r
 --   afterLevel, afterCount, afterLast   "After a level", "after a count", "After the last run"
 --   Sounded           how far a file is sound: where its first fault stopped it, or its end; the leaves so far; the fault
+--   stopped w o       nothing more after w; preceded vs s: the leaves vs before those of s; go-on: the next run, if there is one
 --   soundFrom R w     the R runs that follow w, in turn, to the first fault
 --   sound bs h        all runs of a file whose front is h
 --   leavesIf s        the leaves, refused by the fault

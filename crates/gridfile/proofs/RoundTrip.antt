@@ -10,6 +10,7 @@ use Rattle.paper.specs.Outcome.{Outcome, accepted, and-then}
 use Rattle.paper.specs.Memory.{roomFor}
 use Rattle.paper.proofs.Scan.{accepted-of}
 use Rattle.leaves.specs.Leaves.{Leaf, Columns, leaves, columnsOf, equalColumns, room, Valid}
+use Rattle.leaves.specs.Calls.{limit}
 use Rattle.leaves.specs.Laws.{ValidList}
 use Rattle.leaves.proofs.Columns.{leaves-length}
 use Rattle.leaves.proofs.Listed.{columns-sound, listed-passed, listed-accepted, valid-passes}
@@ -39,7 +40,7 @@ module _ (n L : ℕ) (positive : 0 < n) (low : L ≤ highest) where
       let inside = listed-accepted n L K true true cs (roomFor (length (fileOf K (leaves cs))) (length bytes) (fileOf K (leaves cs))) file h in
       let sound = columns-sound n L K true true cs (inside .0) in
       let same = room-same (length (fileOf K (leaves cs))) (length bytes) (fileOf K (leaves cs)) file (inside .1) in
-      let few : length (leaves cs) ≤ 1048576 = omega (arith, sound .few, leaves-length cs) in
+      let few : length (leaves cs) ≤ limit = omega (arith, sound .few, leaves-length cs) in
       ap (λ (bs : List ℕ). read n L bs m) (sym same)
       ∙ passes (not (equalColumns m)) 11 0 _ (ap not equal)
       ∙ ap (λ (o : Outcome Grid). and-then o (λ (g : Grid). roomFor (length (g .leaves)) (room m) g))

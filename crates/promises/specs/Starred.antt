@@ -23,7 +23,6 @@ use Rattle.reader.specs.Calls.{read}
 use Rattle.tree.specs.Calls as calls
 
 infix 70 _gives_
-
 pub data Case : Type 1 where
   _gives_ : {A : Type 0} → Outcome A → Outcome A → Case
 

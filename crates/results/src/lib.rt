@@ -1,7 +1,6 @@
 // From an answer to what goes over the C interface: a refusal's word and the value beside it. `specs/Results.antt` says how.
 use corners::Point;
 use corners::PointAnswer;
-use reader::GridAnswer;
 use line::Line;
 use line::LineAnswer;
 use paper::CompareAnswer;
@@ -10,6 +9,7 @@ use paper::PassAnswer;
 use paper::TruthAnswer;
 use prism::Prism;
 use prism::PrismAnswer;
+use reader::GridAnswer;
 use triangle::Triangle;
 use triangle::TriangleAnswer;
 ghost use mathlib.Core.Path.{_≡_};

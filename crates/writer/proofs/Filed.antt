@@ -2,7 +2,7 @@
 use mathlib.Core.Path.{_≡_, refl, ap, _∙_, sym}
 use mathlib.Core.Bool.{true}
 use mathlib.Core.List.{List, _++_}
-use Prim.Native.Nat.{ℕ, _+_, _≤_, _<_}
+use Prim.Native.Nat.{ℕ, _+_, _*_, _≤_, _<_}
 use native.Mathlib.Omega.{arith}
 use lib.Dec.{ltb}
 use lib.ListN.{length, length-append}
@@ -52,7 +52,7 @@ module _ (k : ℕ) (cs : Columns) (bs : List ℕ) where
     onward = listed-passed CHILDREN HIGHEST k true true cs _ sound ∙ ap (λ (f : List ℕ). roomFor (length f) (length bs) f) file
 
     module _ (R b : ℕ) (c : Counted ls R b) where
-      pub few-runs : (R ≤ limit) × (b ≤ 6291456)
+      pub few-runs : (R ≤ limit) × (b ≤ 6 * limit)
       few-runs =
           let few = few-levels in
           let one = level-runs-few ls in
@@ -60,7 +60,7 @@ module _ (k : ℕ) (cs : Columns) (bs : List ℕ) where
 
       -- m and u bytes for K and R
       module _ (m u : ℕ) (one : m ≡ length (bytesOf k)) (two : u ≡ length (bytesOf R)) where
-        pub size-few : 4 + m + u + b ≤ 6291466
+        pub size-few : 4 + m + u + b ≤ 6 * limit + 10
         size-few = let few = few-runs in omega (arith, few, few-bytes k, few-bytes R)
 
         size-is : 4 + m + u + b ≡ length (levelFile k ls)

@@ -11,6 +11,7 @@ use lib.ListN.{length, drop, getD, length-append, drop-of-length-le}
 use lib.Seq.{drop-cons}
 use Rattle.paper.specs.Outcome.{rows}
 use Rattle.leaves.specs.Leaves.{Columns, leafAt, leaves}
+use Rattle.leaves.specs.Calls.{limit}
 use Rattle.numbers.specs.Numbers.{bytesOf}
 use Rattle.format.specs.File.{sameKey, Run, run, joinRun, runsIn, runsOf, runBytes, runsFile, fileOf, Differs}
 use Rattle.writer.specs.Inner.{levelFile, RunEnd, Counted}
@@ -90,7 +91,7 @@ module _ (ls : List ℕ) where
   along-none = record { upto = omega arith; runs = zero-add _; bytes = zero-add _ }
 
   module _ (i R b : ℕ) (a : Along ls i R b) where
-    pub along-few : length ls ≤ 1048576 → (R ≤ 1048576) × (b ≤ 6291456)
+    pub along-few : length ls ≤ limit → (R ≤ limit) × (b ≤ 6 * limit)
     along-few few =
         let one = level-runs-few ls in
         let six = run-bytes-few (runsIn ls) in
