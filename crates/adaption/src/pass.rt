@@ -25,7 +25,13 @@ pub(crate) fn count(
     let mut i = 0;
     let mut size = 0;
     while i < roots.len() {
-        let t = turn::at(bits, roots, levels, positions, marks, i);
+        // A mark is a turn, but for a 2 where no family begins.
+        let mut t = marks[i];
+        if t == 2 {
+            if !turn::begins(bits, roots, levels, positions, marks, i) {
+                t = 0;
+            }
+        }
         size += turn::made(bits, t);
         i += turn::taken(bits, t);
     }
@@ -54,7 +60,13 @@ pub(crate) fn write(
     let mut i = 0;
     let mut size = 0;
     while i < roots.len() {
-        let t = turn::at(bits, roots, levels, positions, marks, i);
+        // A mark is a turn, but for a 2 where no family begins.
+        let mut t = marks[i];
+        if t == 2 {
+            if !turn::begins(bits, roots, levels, positions, marks, i) {
+                t = 0;
+            }
+        }
         let level = turn::level(t, levels[i]);
         let position = turn::position(bits, t, positions[i]);
         run::lay(

@@ -3,31 +3,45 @@ ghost use mathlib.Core.Path.{_≡_};
 ghost use Prim.Native.Nat.{_^_, _+_, _*_, _≤_, _<_};
 ghost use lib.ListN.{length};
 ghost use Rattle.leaves.specs.Leaves.{columns, leaves};
-ghost use Rattle.adaption.specs.Inner as inner;
+ghost use Rattle.adaption.specs.Adaption.{merging};
 ghost use Rattle.adaption.specs.Inner.{Ready, gain, stride, newLevel, newPosition};
 
-// What happens at leaf i: a mark is a turn, but for a 2 where no family begins.
-pub(crate) fn at(
+// Whether leaf i is the first of a family that merges. The leaves of one level from a position divisible by their number on are a family,
+// so no further position is compared.
+pub(crate) fn begins(
     bits: u8,
     roots: &[u16],
     levels: &[u8],
     positions: &[u64],
     marks: &[u8],
     i: usize,
-) -> u8
+) -> bool
     requires { ⌜ bits < 8 ⌝ }
     requires { ⌜ i < length (now roots) ⌝ }
     requires { ⌜ Ready (2 ^ bits) (columns (now roots) (now levels) (now positions)) (now marks) ⌝ }
-    ensures { λ r. ⌜ r ≡ inner.turn (2 ^ bits)
+    ensures { λ r. ⌜ r ≡ merging (2 ^ bits)
         (leaves (columns (now (roots .entry)) (now (levels .entry)) (now (positions .entry)))) (now (marks .entry)) i ⌝ }
 {
-    if marks[i] != 2 {
-        return marks[i];
+    if levels[i] == 0 {
+        return false;
     }
-    if families::begins(bits, levels, positions, marks, i) {
-        return 2;
+    if positions[i] % (1u64 << bits) != 0 {
+        return false;
     }
-    0
+    if roots.len() - i < 1usize << bits {
+        return false;
+    }
+    let mut t = 0;
+    while t < 1usize << bits {
+        if levels[i + t] != levels[i] {
+            return false;
+        }
+        if marks[i + t] != 2 {
+            return false;
+        }
+        t += 1;
+    }
+    true
 }
 
 // How many leaves a turn makes.
@@ -35,10 +49,10 @@ pub(crate) fn made(bits: u8, turn: u8) -> usize
     requires { ⌜ bits < 8 ⌝ }
     ensures { λ r. ⌜ r ≡ gain (2 ^ bits) turn ⌝ }
 {
-    if turn != 1 {
-        return 1;
+    if turn == 1 {
+        return 1usize << bits;
     }
-    1usize << bits
+    1
 }
 
 // How many leaves a turn takes.

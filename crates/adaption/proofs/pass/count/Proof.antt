@@ -1,13 +1,16 @@
 -- `count` meets its contract: the turns before leaf i have made so many leaves. Assumes nothing.
-use mathlib.Core.Path.{refl}
+use mathlib.Core.Path.{refl, _∙_, sym}
+use mathlib.Core.Logic.{⊎-elim}
 use Prim.Native.Nat.{_-_, _^_, _<_}
 use native.Mathlib.Omega.{arith}
 use lib.ListN.{length}
 use lib.Pow.{pow-pos}
+use borrow.Author.Tests.{not-true, not-false}
 use Rattle.leaves.specs.Leaves.{columns, leaves}
 use Rattle.leaves.proofs.Columns.{leaves-length}
 use Rattle.adaption.specs.Inner.{stride}
 use Rattle.adaption.proofs.Width.{few-children}
+use Rattle.adaption.proofs.Beginning.{turn-none, turn-family, turn-mark}
 use Rattle.adaption.proofs.Passing.{Along, along-none, along-size, along-next, along-few, stride-pos}
 use Rattle.adaption.proofs.pass.count.Statement.{statement}
 use Rattle.adaption.proofs.pass.count.Tie as tie
@@ -24,53 +27,86 @@ loop-holds c =
     let a = c .before .before .before .before .args in
     along-none (2 ^ a .bits) (pow-pos (a .bits)) (leaves (columns (a .roots .now) (a .levels .now) (a .positions .now))) (a .marks .now)
 
-at-requires : tie.Need-at-requires Inv-loop μ-loop
-at-requires c κs = (c .before .before .before .before .before .before .pre .0, (c .loop-test .taken, c .before .before .before .before .before .before .pre .1))
+shared-slice-read-t : tie.Need-shared-slice-read-t Inv-loop μ-loop
+shared-slice-read-t c = omega (arith, c .before .loop-test .taken, c .before .before .before .before .before .before .before .pre .1 .marks-long)
+
+begins-requires : tie.Need-begins-requires Inv-loop μ-loop
+begins-requires c κs = (c .before .before .before .before .before .before .before .before .pre .0, (c .before .before .loop-test .taken, c .before .before .before .before .before .before .before .before .pre .1))
 
 made-requires : tie.Need-made-requires Inv-loop μ-loop
-made-requires c κs = c .before .before .before .before .before .before .before .pre .0
+made-requires c κs = c .before .before .before .before .before .before .before .before .pre .0
 
 add-size : tie.Need-add-size Inv-loop μ-loop
 add-size c =
-    let a = c .before .before .before .before .before .before .before .before .args in
+    let joined = c .before in
+    let a = joined .before .before .before .before .before .before .before .before .args in
     let cs = columns (a .roots .now) (a .levels .now) (a .positions .now) in
-    let now-at = c .before .before .before .loop in
-    let inside : now-at .i < length (leaves cs) = omega (arith, c .before .before .loop-test .taken, leaves-length cs) in
-    let next = along-next (2 ^ a .bits) (pow-pos (a .bits)) (leaves cs) (a .marks .now) (now-at .i) (now-at .size) (now-at .inv) inside
-    (c .before .at .result) (stride (2 ^ a .bits) (c .before .at .result)) (c .made .result) (c .before .at .ensures) refl (c .made .ensures) in
+    let ready = joined .before .before .before .before .before .before .before .before .pre .1 in
+    let now-at = joined .before .before .before .loop in
+    let inside = joined .before .before .loop-test .taken in
+    let t = joined .if1 .t in
+    let is-turn = ⊎-elim
+    (λ w. turn-none (2 ^ a .bits) (pow-pos (a .bits)) cs (a .marks .now) (now-at .i) inside t (w .0 .taken) (sym (w .1 .ensures) ∙ not-true (w .1 .result) (w .2 .taken)) (w .3))
+    (⊎-elim
+    (λ w. turn-family (2 ^ a .bits) (pow-pos (a .bits)) cs (a .marks .now) (now-at .i) inside t (w .0 .taken) (sym (w .1 .ensures) ∙ not-false (w .1 .result) (w .2 .left)) (w .3))
+    (λ w. turn-mark (2 ^ a .bits) (pow-pos (a .bits)) cs (a .marks .now) (now-at .i) inside t ready (w .0 .left) (w .1)))
+    (joined .if1 .came) in
+    let in-list : now-at .i < length (leaves cs) = omega (arith, inside, leaves-length cs) in
+    let next = along-next (2 ^ a .bits) (pow-pos (a .bits)) (leaves cs) (a .marks .now) (now-at .i) (now-at .size) (now-at .inv) in-list
+    t (stride (2 ^ a .bits) t) (c .made .result) is-turn refl (c .made .ensures) in
     omega (
       arith,
       along-few (2 ^ a .bits) (pow-pos (a .bits)) (leaves cs) (a .marks .now) _ _ next
-          (omega (arith, c .before .before .before .before .before .before .before .before .pre .1 .few, leaves-length cs)) (few-children (a .bits) (c .before .before .before .before .before .before .before .before .pre .0)),
+          (omega (arith, ready .few, leaves-length cs)) (few-children (a .bits) (c .before .before .before .before .before .before .before .before .before .pre .0)),
     )
 
 taken-requires : tie.Need-taken-requires Inv-loop μ-loop
-taken-requires c κs = c .before .before .before .before .before .before .before .before .pre .0
+taken-requires c κs = c .before .before .before .before .before .before .before .before .before .pre .0
 
 add-i : tie.Need-add-i Inv-loop μ-loop
 add-i c =
-    let a = c .before .before .before .before .before .before .before .before .before .args in
+    let joined = c .before .before in
+    let a = joined .before .before .before .before .before .before .before .before .args in
     let cs = columns (a .roots .now) (a .levels .now) (a .positions .now) in
-    let now-at = c .before .before .before .before .loop in
-    let inside : now-at .i < length (leaves cs) = omega (arith, c .before .before .before .loop-test .taken, leaves-length cs) in
-    let next = along-next (2 ^ a .bits) (pow-pos (a .bits)) (leaves cs) (a .marks .now) (now-at .i) (now-at .size) (now-at .inv) inside
-    (c .before .before .at .result) (c .taken .result) (c .before .made .result) (c .before .before .at .ensures) (c .taken .ensures) (c .before .made .ensures) in
-    omega (arith, next .upto, c .before .before .before .before .before .before .before .before .before .pre .1 .few, leaves-length cs)
+    let ready = joined .before .before .before .before .before .before .before .before .pre .1 in
+    let now-at = joined .before .before .before .loop in
+    let inside = joined .before .before .loop-test .taken in
+    let t = joined .if1 .t in
+    let is-turn = ⊎-elim
+    (λ w. turn-none (2 ^ a .bits) (pow-pos (a .bits)) cs (a .marks .now) (now-at .i) inside t (w .0 .taken) (sym (w .1 .ensures) ∙ not-true (w .1 .result) (w .2 .taken)) (w .3))
+    (⊎-elim
+    (λ w. turn-family (2 ^ a .bits) (pow-pos (a .bits)) cs (a .marks .now) (now-at .i) inside t (w .0 .taken) (sym (w .1 .ensures) ∙ not-false (w .1 .result) (w .2 .left)) (w .3))
+    (λ w. turn-mark (2 ^ a .bits) (pow-pos (a .bits)) cs (a .marks .now) (now-at .i) inside t ready (w .0 .left) (w .1)))
+    (joined .if1 .came) in
+    let in-list : now-at .i < length (leaves cs) = omega (arith, inside, leaves-length cs) in
+    let next = along-next (2 ^ a .bits) (pow-pos (a .bits)) (leaves cs) (a .marks .now) (now-at .i) (now-at .size) (now-at .inv) in-list
+    t (c .taken .result) (c .before .made .result) is-turn (c .taken .ensures) (c .before .made .ensures) in
+    omega (arith, next .upto, ready .few, leaves-length cs)
 
 loop-less : tie.Need-loop-less Inv-loop μ-loop
 loop-less c =
-    let bits = c .before .before .before .before .before .before .before .before .before .args .bits in
-    let some : 0 < c .taken .result = rw (c .taken .ensures) (stride-pos (2 ^ bits) (pow-pos bits) (c .before .before .at .result)) in
-    omega (arith, c .before .before .before .loop-test .taken, some)
+    let bits = c .before .before .before .before .before .before .before .before .before .before .args .bits in
+    let some : 0 < c .taken .result = rw (c .taken .ensures) (stride-pos (2 ^ bits) (pow-pos bits) (c .before .before .if1 .t)) in
+    omega (arith, c .before .before .before .before .loop-test .taken, some)
 
 loop-again : tie.Need-loop-again Inv-loop μ-loop
 loop-again c =
-    let a = c .before .before .before .before .before .before .before .before .before .args in
+    let joined = c .before .before in
+    let a = joined .before .before .before .before .before .before .before .before .args in
     let cs = columns (a .roots .now) (a .levels .now) (a .positions .now) in
-    let now-at = c .before .before .before .before .loop in
-    let inside : now-at .i < length (leaves cs) = omega (arith, c .before .before .before .loop-test .taken, leaves-length cs) in
-    along-next (2 ^ a .bits) (pow-pos (a .bits)) (leaves cs) (a .marks .now) (now-at .i) (now-at .size) (now-at .inv) inside
-    (c .before .before .at .result) (c .taken .result) (c .before .made .result) (c .before .before .at .ensures) (c .taken .ensures) (c .before .made .ensures)
+    let ready = joined .before .before .before .before .before .before .before .before .pre .1 in
+    let now-at = joined .before .before .before .loop in
+    let inside = joined .before .before .loop-test .taken in
+    let t = joined .if1 .t in
+    let is-turn = ⊎-elim
+    (λ w. turn-none (2 ^ a .bits) (pow-pos (a .bits)) cs (a .marks .now) (now-at .i) inside t (w .0 .taken) (sym (w .1 .ensures) ∙ not-true (w .1 .result) (w .2 .taken)) (w .3))
+    (⊎-elim
+    (λ w. turn-family (2 ^ a .bits) (pow-pos (a .bits)) cs (a .marks .now) (now-at .i) inside t (w .0 .taken) (sym (w .1 .ensures) ∙ not-false (w .1 .result) (w .2 .left)) (w .3))
+    (λ w. turn-mark (2 ^ a .bits) (pow-pos (a .bits)) cs (a .marks .now) (now-at .i) inside t ready (w .0 .left) (w .1)))
+    (joined .if1 .came) in
+    let in-list : now-at .i < length (leaves cs) = omega (arith, inside, leaves-length cs) in
+    along-next (2 ^ a .bits) (pow-pos (a .bits)) (leaves cs) (a .marks .now) (now-at .i) (now-at .size) (now-at .inv) in-list
+    t (c .taken .result) (c .before .made .result) is-turn (c .taken .ensures) (c .before .made .ensures)
 
 returns : tie.Need-returns Inv-loop μ-loop
 returns c =
@@ -87,7 +123,8 @@ count-spec =
     Inv-loop
     μ-loop
     loop-holds
-    at-requires
+    shared-slice-read-t
+    begins-requires
     made-requires
     add-size
     taken-requires

@@ -1,14 +1,17 @@
 -- `write` meets its contract: the turns before leaf i have written the first leaves of the result. Assumes nothing.
-use mathlib.Core.Path.{_≡_, refl, sym}
+use mathlib.Core.Path.{refl, _∙_, sym}
+use mathlib.Core.Logic.{⊎-elim}
 use Prim.Native.Nat.{_-_, _^_, _<_}
 use native.Mathlib.Omega.{arith}
 use lib.ListN.{length}
 use lib.Pow.{pow-pos}
 use borrow.Author.Needs.{needs}
+use borrow.Author.Tests.{not-true, not-false}
 use Rattle.leaves.specs.Leaves.{columns, leafAt, leaves}
 use Rattle.leaves.proofs.Columns.{leaves-length, nth-leaves}
 use Rattle.adaption.specs.Inner.{stride}
 use Rattle.adaption.proofs.Width.{few-children}
+use Rattle.adaption.proofs.Beginning.{turn-none, turn-family, turn-mark}
 use Rattle.adaption.proofs.Passing.{Underway, underway-none, underway-next, underway-all, along-next, along-few, room-for, roots-stay, levels-stay, positions-stay, stride-pos}
 use Rattle.adaption.proofs.Fitting.{level-below, level-above, position-below, positions-fit}
 use Rattle.adaption.proofs.pass.write.Statement.{statement}
@@ -27,109 +30,163 @@ loop-holds c =
     let a = c .before .before .before .before .before .before .before .args in
     underway-none (2 ^ a .bits) (pow-pos (a .bits)) (leaves (columns (a .roots .now) (a .levels .now) (a .positions .now))) (a .marks .now) (columns (a .new-roots .now) (a .new-levels .now) (a .new-positions .now))
 
-at-requires : tie.Need-at-requires Inv-loop μ-loop
-at-requires c κs = (c .before .before .before .before .before .before .before .before .before .pre .0, (c .loop-test .taken, c .before .before .before .before .before .before .before .before .before .pre .1 .0))
+shared-slice-read-t : tie.Need-shared-slice-read-t Inv-loop μ-loop
+shared-slice-read-t c = omega (arith, c .before .loop-test .taken, c .before .before .before .before .before .before .before .before .before .before .pre .1 .0 .marks-long)
+
+begins-requires : tie.Need-begins-requires Inv-loop μ-loop
+begins-requires c κs = (c .before .before .before .before .before .before .before .before .before .before .before .pre .0, (c .before .before .loop-test .taken, c .before .before .before .before .before .before .before .before .before .before .before .pre .1 .0))
 
 shared-slice-read-level : tie.Need-shared-slice-read-level Inv-loop μ-loop
-shared-slice-read-level c = omega (arith, c .before .before .loop-test .taken, c .before .before .before .before .before .before .before .before .before .before .before .pre .1 .0 .levels-long)
+shared-slice-read-level c = omega (arith, c .before .before .before .loop-test .taken, c .before .before .before .before .before .before .before .before .before .before .before .before .pre .1 .0 .levels-long)
 
 level-requires : tie.Need-level-requires Inv-loop μ-loop
 level-requires c κs =
-    let a = c .before .before .before .before .before .before .before .before .before .before .before .args in
+    let joined = c .before in
+    let a = joined .before .before .before .before .before .before .before .before .before .before .before .args in
     let cs = columns (a .roots .now) (a .levels .now) (a .positions .now) in
-    let ready = c .before .before .before .before .before .before .before .before .before .before .before .pre .1 .0 in
-    let now-at = c .before .before .before .loop in (
-      level-below (2 ^ a .bits) (pow-pos (a .bits)) cs (a .marks .now) ready (now-at .i) (c .before .before .loop-test .taken) (now-at .inv .along .clear) (c .before .at .result) (c .before .at .ensures),
-      level-above (2 ^ a .bits) (pow-pos (a .bits)) cs (a .marks .now) ready (now-at .i) (c .before .before .loop-test .taken) (now-at .inv .along .clear) (c .before .at .result) (c .before .at .ensures),
+    let ready = joined .before .before .before .before .before .before .before .before .before .before .before .pre .1 .0 in
+    let now-at = joined .before .before .before .loop in
+    let inside = joined .before .before .loop-test .taken in
+    let t = joined .if1 .t in
+    let is-turn = ⊎-elim
+    (λ w. turn-none (2 ^ a .bits) (pow-pos (a .bits)) cs (a .marks .now) (now-at .i) inside t (w .0 .taken) (sym (w .1 .ensures) ∙ not-true (w .1 .result) (w .2 .taken)) (w .3))
+    (⊎-elim
+    (λ w. turn-family (2 ^ a .bits) (pow-pos (a .bits)) cs (a .marks .now) (now-at .i) inside t (w .0 .taken) (sym (w .1 .ensures) ∙ not-false (w .1 .result) (w .2 .left)) (w .3))
+    (λ w. turn-mark (2 ^ a .bits) (pow-pos (a .bits)) cs (a .marks .now) (now-at .i) inside t ready (w .0 .left) (w .1)))
+    (joined .if1 .came) in (
+      level-below (2 ^ a .bits) (pow-pos (a .bits)) cs (a .marks .now) ready (now-at .i) inside (now-at .inv .along .clear) t is-turn,
+      level-above (2 ^ a .bits) (pow-pos (a .bits)) cs (a .marks .now) ready (now-at .i) inside (now-at .inv .along .clear) t is-turn,
     )
 
 mul-position : tie.Need-mul-position Inv-loop μ-loop
 mul-position c = search needs
 
 shared-slice-read-position : tie.Need-shared-slice-read-position Inv-loop μ-loop
-shared-slice-read-position c = omega (arith, c .before .before .before .before .loop-test .taken, c .before .before .before .before .before .before .before .before .before .before .before .before .before .pre .1 .0 .positions-long)
+shared-slice-read-position c = omega (arith, c .before .before .before .before .before .loop-test .taken, c .before .before .before .before .before .before .before .before .before .before .before .before .before .before .pre .1 .0 .positions-long)
 
 position-requires : tie.Need-position-requires Inv-loop μ-loop
 position-requires c κs =
-    let a = c .before .before .before .before .before .before .before .before .before .before .before .before .before .args in
+    let joined = c .before .before .before in
+    let a = joined .before .before .before .before .before .before .before .before .before .before .before .args in
     let cs = columns (a .roots .now) (a .levels .now) (a .positions .now) in
-    let now-at = c .before .before .before .before .before .loop in (
-      c .before .before .before .before .before .before .before .before .before .before .before .before .before .pre .0,
-      position-below (2 ^ a .bits) (pow-pos (a .bits)) cs (a .marks .now) (c .before .before .before .before .before .before .before .before .before .before .before .before .before .pre .1 .0) (now-at .i) (c .before .before .before .before .loop-test .taken) (now-at .inv .along .clear)
-          (c .before .before .before .at .result) (c .before .before .before .at .ensures),
-    )
+    let ready = joined .before .before .before .before .before .before .before .before .before .before .before .pre .1 .0 in
+    let now-at = joined .before .before .before .loop in
+    let inside = joined .before .before .loop-test .taken in
+    let t = joined .if1 .t in
+    let is-turn = ⊎-elim
+    (λ w. turn-none (2 ^ a .bits) (pow-pos (a .bits)) cs (a .marks .now) (now-at .i) inside t (w .0 .taken) (sym (w .1 .ensures) ∙ not-true (w .1 .result) (w .2 .taken)) (w .3))
+    (⊎-elim
+    (λ w. turn-family (2 ^ a .bits) (pow-pos (a .bits)) cs (a .marks .now) (now-at .i) inside t (w .0 .taken) (sym (w .1 .ensures) ∙ not-false (w .1 .result) (w .2 .left)) (w .3))
+    (λ w. turn-mark (2 ^ a .bits) (pow-pos (a .bits)) cs (a .marks .now) (now-at .i) inside t ready (w .0 .left) (w .1)))
+    (joined .if1 .came) in
+    (c .before .before .before .before .before .before .before .before .before .before .before .before .before .before .pre .0, position-below (2 ^ a .bits) (pow-pos (a .bits)) cs (a .marks .now) ready (now-at .i) inside (now-at .inv .along .clear) t is-turn)
 
 mul-lay : tie.Need-mul-lay Inv-loop μ-loop
 mul-lay c = search needs
 
 shared-slice-read-lay : tie.Need-shared-slice-read-lay Inv-loop μ-loop
-shared-slice-read-lay c = omega (arith, c .before .before .before .before .before .before .loop-test .taken)
+shared-slice-read-lay c = omega (arith, c .before .before .before .before .before .before .before .loop-test .taken)
 
 lay-requires : tie.Need-lay-requires Inv-loop μ-loop
 lay-requires c κs =
-    let a = c .before .before .before .before .before .before .before .before .before .before .before .before .before .before .before .before .before .before .args in
+    let joined = c .before .before .before .before .before .before .before .before in
+    let a = joined .before .before .before .before .before .before .before .before .before .before .before .args in
     let cs = columns (a .roots .now) (a .levels .now) (a .positions .now) in
-    let now-at = c .before .before .before .before .before .before .before .before .before .before .loop in
-    let inside = c .before .before .before .before .before .before .before .before .before .loop-test .taken in
-    let fit = positions-fit (2 ^ a .bits) (pow-pos (a .bits)) cs (a .marks .now) (c .before .before .before .before .before .before .before .before .before .before .before .before .before .before .before .before .before .before .pre .1 .0) (now-at .i) inside (now-at .inv .along .clear)
-    (c .before .before .before .before .before .before .before .before .at .result) (c .before .before .before .before .before .before .before .before .at .ensures) (c .before .before .before .before .position .result) (c .before .before .before .before .position .ensures) in (
-      c .before .before .before .before .before .before .before .before .before .before .before .before .before .before .before .before .before .before .pre .0,
+    let ready = joined .before .before .before .before .before .before .before .before .before .before .before .pre .1 .0 in
+    let now-at = joined .before .before .before .loop in
+    let inside = joined .before .before .loop-test .taken in
+    let t = joined .if1 .t in
+    let is-turn = ⊎-elim
+    (λ w. turn-none (2 ^ a .bits) (pow-pos (a .bits)) cs (a .marks .now) (now-at .i) inside t (w .0 .taken) (sym (w .1 .ensures) ∙ not-true (w .1 .result) (w .2 .taken)) (w .3))
+    (⊎-elim
+    (λ w. turn-family (2 ^ a .bits) (pow-pos (a .bits)) cs (a .marks .now) (now-at .i) inside t (w .0 .taken) (sym (w .1 .ensures) ∙ not-false (w .1 .result) (w .2 .left)) (w .3))
+    (λ w. turn-mark (2 ^ a .bits) (pow-pos (a .bits)) cs (a .marks .now) (now-at .i) inside t ready (w .0 .left) (w .1)))
+    (joined .if1 .came) in
+    let fit = positions-fit (2 ^ a .bits) (pow-pos (a .bits)) cs (a .marks .now) ready (now-at .i) inside (now-at .inv .along .clear) t is-turn
+    (c .before .before .before .before .position .result) (c .before .before .before .before .position .ensures) in (
+      c .before .before .before .before .before .before .before .before .before .before .before .before .before .before .before .before .before .before .before .pre .0,
       (
         fit,
         room-for (2 ^ a .bits) (pow-pos (a .bits)) (leaves cs) (a .marks .now) (columns (a .new-roots .now) (a .new-levels .now) (a .new-positions .now)) (now-at .i) (now-at .size) (columns (now-at .new-roots) (now-at .new-levels) (now-at .new-positions)) (now-at .inv)
-            (c .before .before .before .before .before .before .before .before .before .before .before .before .before .before .before .before .before .before .pre .1 .1) (omega (arith, inside, leaves-length cs)) (c .before .before .before .before .before .before .before .before .at .result) (c .before .before .before .before .before .before .before .before .at .ensures),
+            (c .before .before .before .before .before .before .before .before .before .before .before .before .before .before .before .before .before .before .before .pre .1 .1) (omega (arith, inside, leaves-length cs)) t is-turn,
       ),
     )
 
 made-requires : tie.Need-made-requires Inv-loop μ-loop
-made-requires c κs = c .before .before .before .before .before .before .before .before .before .before .before .before .before .before .before .before .before .before .before .before .before .before .before .before .before .pre .0
+made-requires c κs = c .before .before .before .before .before .before .before .before .before .before .before .before .before .before .before .before .before .before .before .before .before .before .before .before .before .before .pre .0
 
 add-size : tie.Need-add-size Inv-loop μ-loop
 add-size c =
-    let a = c .before .before .before .before .before .before .before .before .before .before .before .before .before .before .before .before .before .before .before .before .before .before .before .before .before .before .args in
+    let joined = c .before .before .before .before .before .before .before .before .before .before .before .before .before .before .before .before in
+    let a = joined .before .before .before .before .before .before .before .before .before .before .before .args in
     let cs = columns (a .roots .now) (a .levels .now) (a .positions .now) in
-    let now-at = c .before .before .before .before .before .before .before .before .before .before .before .before .before .before .before .before .before .before .loop in
-    let turned = c .before .before .before .before .before .before .before .before .before .before .before .before .before .before .before .before in
-    let inside : now-at .i < length (leaves cs) = omega (arith, c .before .before .before .before .before .before .before .before .before .before .before .before .before .before .before .before .before .loop-test .taken, leaves-length cs) in
-    let next = along-next (2 ^ a .bits) (pow-pos (a .bits)) (leaves cs) (a .marks .now) (now-at .i) (now-at .size) (now-at .inv .along) inside
-    (turned .at .result) (stride (2 ^ a .bits) (turned .at .result)) (c .made .result) (turned .at .ensures) refl (c .made .ensures) in
+    let ready = joined .before .before .before .before .before .before .before .before .before .before .before .pre .1 .0 in
+    let now-at = joined .before .before .before .loop in
+    let inside = joined .before .before .loop-test .taken in
+    let t = joined .if1 .t in
+    let is-turn = ⊎-elim
+    (λ w. turn-none (2 ^ a .bits) (pow-pos (a .bits)) cs (a .marks .now) (now-at .i) inside t (w .0 .taken) (sym (w .1 .ensures) ∙ not-true (w .1 .result) (w .2 .taken)) (w .3))
+    (⊎-elim
+    (λ w. turn-family (2 ^ a .bits) (pow-pos (a .bits)) cs (a .marks .now) (now-at .i) inside t (w .0 .taken) (sym (w .1 .ensures) ∙ not-false (w .1 .result) (w .2 .left)) (w .3))
+    (λ w. turn-mark (2 ^ a .bits) (pow-pos (a .bits)) cs (a .marks .now) (now-at .i) inside t ready (w .0 .left) (w .1)))
+    (joined .if1 .came) in
+    let in-list : now-at .i < length (leaves cs) = omega (arith, inside, leaves-length cs) in
+    let next = along-next (2 ^ a .bits) (pow-pos (a .bits)) (leaves cs) (a .marks .now) (now-at .i) (now-at .size) (now-at .inv .along) in-list
+    t (stride (2 ^ a .bits) t) (c .made .result) is-turn refl (c .made .ensures) in
     omega (
       arith,
       along-few (2 ^ a .bits) (pow-pos (a .bits)) (leaves cs) (a .marks .now) _ _ next
-          (omega (arith, c .before .before .before .before .before .before .before .before .before .before .before .before .before .before .before .before .before .before .before .before .before .before .before .before .before .before .pre .1 .0 .few, leaves-length cs)) (few-children (a .bits) (c .before .before .before .before .before .before .before .before .before .before .before .before .before .before .before .before .before .before .before .before .before .before .before .before .before .before .pre .0)),
+          (omega (arith, ready .few, leaves-length cs)) (few-children (a .bits) (c .before .before .before .before .before .before .before .before .before .before .before .before .before .before .before .before .before .before .before .before .before .before .before .before .before .before .before .pre .0)),
     )
 
 taken-requires : tie.Need-taken-requires Inv-loop μ-loop
-taken-requires c κs = c .before .before .before .before .before .before .before .before .before .before .before .before .before .before .before .before .before .before .before .before .before .before .before .before .before .before .pre .0
+taken-requires c κs = c .before .before .before .before .before .before .before .before .before .before .before .before .before .before .before .before .before .before .before .before .before .before .before .before .before .before .before .pre .0
 
 add-i : tie.Need-add-i Inv-loop μ-loop
 add-i c =
-    let a = c .before .before .before .before .before .before .before .before .before .before .before .before .before .before .before .before .before .before .before .before .before .before .before .before .before .before .before .args in
+    let joined = c .before .before .before .before .before .before .before .before .before .before .before .before .before .before .before .before .before in
+    let a = joined .before .before .before .before .before .before .before .before .before .before .before .args in
     let cs = columns (a .roots .now) (a .levels .now) (a .positions .now) in
-    let now-at = c .before .before .before .before .before .before .before .before .before .before .before .before .before .before .before .before .before .before .before .loop in
-    let turned = c .before .before .before .before .before .before .before .before .before .before .before .before .before .before .before .before .before in
-    let inside : now-at .i < length (leaves cs) = omega (arith, c .before .before .before .before .before .before .before .before .before .before .before .before .before .before .before .before .before .before .loop-test .taken, leaves-length cs) in
-    let next = along-next (2 ^ a .bits) (pow-pos (a .bits)) (leaves cs) (a .marks .now) (now-at .i) (now-at .size) (now-at .inv .along) inside
-    (turned .at .result) (c .taken .result) (c .before .made .result) (turned .at .ensures) (c .taken .ensures) (c .before .made .ensures) in
-    omega (arith, next .upto, c .before .before .before .before .before .before .before .before .before .before .before .before .before .before .before .before .before .before .before .before .before .before .before .before .before .before .before .pre .1 .0 .few, leaves-length cs)
+    let ready = joined .before .before .before .before .before .before .before .before .before .before .before .pre .1 .0 in
+    let now-at = joined .before .before .before .loop in
+    let inside = joined .before .before .loop-test .taken in
+    let t = joined .if1 .t in
+    let is-turn = ⊎-elim
+    (λ w. turn-none (2 ^ a .bits) (pow-pos (a .bits)) cs (a .marks .now) (now-at .i) inside t (w .0 .taken) (sym (w .1 .ensures) ∙ not-true (w .1 .result) (w .2 .taken)) (w .3))
+    (⊎-elim
+    (λ w. turn-family (2 ^ a .bits) (pow-pos (a .bits)) cs (a .marks .now) (now-at .i) inside t (w .0 .taken) (sym (w .1 .ensures) ∙ not-false (w .1 .result) (w .2 .left)) (w .3))
+    (λ w. turn-mark (2 ^ a .bits) (pow-pos (a .bits)) cs (a .marks .now) (now-at .i) inside t ready (w .0 .left) (w .1)))
+    (joined .if1 .came) in
+    let in-list : now-at .i < length (leaves cs) = omega (arith, inside, leaves-length cs) in
+    let next = along-next (2 ^ a .bits) (pow-pos (a .bits)) (leaves cs) (a .marks .now) (now-at .i) (now-at .size) (now-at .inv .along) in-list
+    t (c .taken .result) (c .before .made .result) is-turn (c .taken .ensures) (c .before .made .ensures) in
+    omega (arith, next .upto, ready .few, leaves-length cs)
 
 loop-less : tie.Need-loop-less Inv-loop μ-loop
 loop-less c =
-    let bits = c .before .before .before .before .before .before .before .before .before .before .before .before .before .before .before .before .before .before .before .before .before .before .before .before .before .before .before .args .bits in
-    let some : 0 < c .taken .result = rw (c .taken .ensures) (stride-pos (2 ^ bits) (pow-pos bits) (c .before .before .before .before .before .before .before .before .before .before .before .before .before .before .before .before .before .at .result)) in
-    omega (arith, c .before .before .before .before .before .before .before .before .before .before .before .before .before .before .before .before .before .before .loop-test .taken, some)
+    let bits = c .before .before .before .before .before .before .before .before .before .before .before .before .before .before .before .before .before .before .before .before .before .before .before .before .before .before .before .before .args .bits in
+    let some : 0 < c .taken .result = rw (c .taken .ensures) (stride-pos (2 ^ bits) (pow-pos bits) (c .before .before .before .before .before .before .before .before .before .before .before .before .before .before .before .before .before .if1 .t)) in
+    omega (arith, c .before .before .before .before .before .before .before .before .before .before .before .before .before .before .before .before .before .before .before .loop-test .taken, some)
 
 loop-again : tie.Need-loop-again Inv-loop μ-loop
 loop-again c =
-    let a = c .before .before .before .before .before .before .before .before .before .before .before .before .before .before .before .before .before .before .before .before .before .before .before .before .before .before .before .args in
+    let joined = c .before .before .before .before .before .before .before .before .before .before .before .before .before .before .before .before .before in
+    let a = joined .before .before .before .before .before .before .before .before .before .before .before .args in
     let cs = columns (a .roots .now) (a .levels .now) (a .positions .now) in
-    let now-at = c .before .before .before .before .before .before .before .before .before .before .before .before .before .before .before .before .before .before .before .loop in
-    let turned = c .before .before .before .before .before .before .before .before .before .before .before .before .before .before .before .before .before in
-    let inside = c .before .before .before .before .before .before .before .before .before .before .before .before .before .before .before .before .before .before .loop-test .taken in
+    let ready = joined .before .before .before .before .before .before .before .before .before .before .before .pre .1 .0 in
+    let now-at = joined .before .before .before .loop in
+    let inside = joined .before .before .loop-test .taken in
+    let t = joined .if1 .t in
+    let is-turn = ⊎-elim
+    (λ w. turn-none (2 ^ a .bits) (pow-pos (a .bits)) cs (a .marks .now) (now-at .i) inside t (w .0 .taken) (sym (w .1 .ensures) ∙ not-true (w .1 .result) (w .2 .taken)) (w .3))
+    (⊎-elim
+    (λ w. turn-family (2 ^ a .bits) (pow-pos (a .bits)) cs (a .marks .now) (now-at .i) inside t (w .0 .taken) (sym (w .1 .ensures) ∙ not-false (w .1 .result) (w .2 .left)) (w .3))
+    (λ w. turn-mark (2 ^ a .bits) (pow-pos (a .bits)) cs (a .marks .now) (now-at .i) inside t ready (w .0 .left) (w .1)))
+    (joined .if1 .came) in
     underway-next (2 ^ a .bits) (pow-pos (a .bits)) (leaves cs) (a .marks .now) (columns (a .new-roots .now) (a .new-levels .now) (a .new-positions .now)) (now-at .i) (now-at .size) (columns (now-at .new-roots) (now-at .new-levels) (now-at .new-positions)) (now-at .inv)
-    (c .before .before .before .before .before .before .before .before .before .before .before .before .before .before .before .before .before .before .before .before .before .before .before .before .before .before .before .pre .1 .1) (omega (arith, inside, leaves-length cs)) _ (leafAt cs (now-at .i))
-    (turned .at .result) (c .before .before .before .before .before .before .before .before .before .before .before .before .before .before .before .level .result) (c .before .before .before .before .before .before .before .before .before .before .before .before .before .position .result) (c .taken .result) (c .before .made .result)
-    (sym (nth-leaves cs (now-at .i) inside)) (turned .at .ensures) (c .before .before .before .before .before .before .before .before .before .before .before .before .before .before .before .level .ensures) (c .before .before .before .before .before .before .before .before .before .before .before .before .before .position .ensures) (c .taken .ensures) (c .before .made .ensures)
+    (c .before .before .before .before .before .before .before .before .before .before .before .before .before .before .before .before .before .before .before .before .before .before .before .before .before .before .before .before .pre .1 .1) (omega (arith, inside, leaves-length cs)) _ (leafAt cs (now-at .i))
+    t (c .before .before .before .before .before .before .before .before .before .before .before .before .before .before .before .level .result) (c .before .before .before .before .before .before .before .before .before .before .before .before .before .position .result) (c .taken .result) (c .before .made .result)
+    (sym (nth-leaves cs (now-at .i) inside)) is-turn (c .before .before .before .before .before .before .before .before .before .before .before .before .before .before .before .level .ensures) (c .before .before .before .before .before .before .before .before .before .before .before .before .before .position .ensures) (c .taken .ensures) (c .before .made .ensures)
     (c .before .before .before .before .before .before .before .before .lay .ensures)
 
 same-length : tie.Need-same-length Inv-loop μ-loop
@@ -165,7 +222,8 @@ write-spec =
     Inv-loop
     μ-loop
     loop-holds
-    at-requires
+    shared-slice-read-t
+    begins-requires
     shared-slice-read-level
     level-requires
     mul-position

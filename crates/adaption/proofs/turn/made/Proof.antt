@@ -5,14 +5,14 @@ use Rattle.adaption.proofs.Width.{one-shifted}
 use Rattle.adaption.proofs.turn.made.Statement.{statement}
 use Rattle.adaption.proofs.turn.made.Tie as tie
 
-returns : tie.Need-returns
-returns c = simp (ne-eqb (c .before .args .turn) 1 (c .if1 .taken))
-
 shl-result : tie.Need-shl-result
 shl-result c = omega (arith, (c .before .pre))
 
+returns : tie.Need-returns
+returns c = simp (eq-eqb (c .before .args .turn) 1 (c .if1 .taken)) (one-shifted (c .before .args .bits) (c .before .pre))
+
 returns-2 : tie.Need-returns-2
-returns-2 c = simp (eq-eqb (c .before .args .turn) 1 (c .if1 .left)) (one-shifted (c .before .args .bits) (c .before .pre))
+returns-2 c = simp (ne-eqb (c .before .args .turn) 1 (c .if1 .left))
 
 pub made-spec : {M : Type 1} → statement M
-made-spec = tie.close (tie.spec returns shl-result returns-2)
+made-spec = tie.close (tie.spec shl-result returns returns-2)
