@@ -4,7 +4,6 @@ use mathlib.Core.Path.{_≡_, _∙_, sym, subst⁻¹}
 use mathlib.Core.List.{List}
 use Prim.Native.Nat.{ℕ, _+_, _*_, _^_, _≤_, _<_}
 use native.Mathlib.Omega.{arith}
-use lib.ListN.{length}
 use Rattle.leaves.specs.Leaves.{Columns, leafAt, leaves, room}
 use Rattle.leaves.proofs.Columns.{leaves-length}
 use Rattle.adaption.specs.Inner.{turn, gain, newPosition, Ready}

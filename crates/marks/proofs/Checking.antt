@@ -7,7 +7,7 @@ use lib.ListN.{length}
 use borrow.Author.Tests.{ne-eqb}
 use Rattle.paper.specs.Outcome.{refused, passed, checks}
 use Rattle.paper.proofs.Scan.{scan-passed, scan-refused}
-use Rattle.marks.specs.Marks.{markFault, depthFault, numbers, marked, checkMarks}
+use Rattle.marks.specs.Marks.{markFault, depthFault, numbers, checkMarks}
 use Rattle.marks.specs.Inner.{Faultless}
 use Rattle.marks.proofs.Sound.{all-sound}
 use Rattle.marks.proofs.Marked.{check-is}
