@@ -49,11 +49,14 @@ enum-known-number c = search needs
 
 returns-4 : tie.Need-returns-4
 returns-4 c =
-    let a = c .before .before .before .before .before .before .before .before .before .before .before .before .before .before .before .before .args in
+    let at-equal-lengths = c .before .before .before .before .before in
+    let at-if2 = at-equal-lengths .before in
+    let start = at-if2 .before .before .before .before .before .before .before .before .before .before in
+    let a = start .args in
     let cs = columns (a .roots .now) (a .levels .now) (a .positions .now) in
     let m = columns (a .new-roots .now) (a .new-levels .now) (a .new-positions .now) in
-    let equal = sym (c .before .before .before .before .before .equal-lengths .ensures) ∙ not-false (c .before .before .before .before .before .equal-lengths .result) (c .before .before .before .before .if3 .left) in
-    not-adapted (a .k) cs (a .marks .now) m _ _ (leaves-refused (a .k) cs (a .marks .now) m (c .before .before .before .before .before .before .if2 .left) equal _ _
+    let equal = sym (at-equal-lengths .equal-lengths .ensures) ∙ not-false (at-equal-lengths .equal-lengths .result) (c .before .before .before .before .if3 .left) in
+    not-adapted (a .k) cs (a .marks .now) m _ _ (leaves-refused (a .k) cs (a .marks .now) m (at-if2 .if2 .left) equal _ _
     (sym (c .before .before .before .check-list .ensures) ∙ ap passOf (c .before .number .given .1)))
 
 enum-told : tie.Need-enum-told
@@ -90,43 +93,47 @@ count-requires c κs =
 
 returns-6 : tie.Need-returns-6
 returns-6 c =
-    let told = c .before .before .before .before .before in
+    let at-before = c .before .before .before .before in
+    let told = at-before .before in
     let a = told .before .before .before .before .before .before .before .before .before .before .before .before .before .before .before .args in
     let cs = columns (a .roots .now) (a .levels .now) (a .positions .now) in
     let m = columns (a .new-roots .now) (a .new-levels .now) (a .new-positions .now) in
     let long = told .before .before .before .before .before .if2 .left in
     let equal = sym (told .before .before .before .before .equal-lengths .ensures) ∙ not-false (told .before .before .before .before .equal-lengths .result) (told .before .before .before .if3 .left) in
     let sound = sym (told .before .before .check-list .ensures) ∙ ap passOf (told .enum-told .given .1) in
-    let judged = c .before .before .before .before .check in
+    let judged = at-before .check in
     let right = sym (judged .ensures) ∙ fault-none (judged .result .number) (judged .result .place) passed (c .before .before .if4 .left) in
     not-adapted (a .k) cs (a .marks .now) m 15 0
     (too-many-15 (a .k) cs (a .marks .now) m long equal sound right (c .before .count .result) (c .before .count .ensures) (c .if5 .taken))
 
 returns-7 : tie.Need-returns-7
 returns-7 c =
-    let told = c .before .before .before .before .before .before in
+    let at-before = c .before .before .before .before .before in
+    let told = at-before .before in
     let a = told .before .before .before .before .before .before .before .before .before .before .before .before .before .before .before .args in
     let cs = columns (a .roots .now) (a .levels .now) (a .positions .now) in
     let m = columns (a .new-roots .now) (a .new-levels .now) (a .new-positions .now) in
     let long = told .before .before .before .before .before .if2 .left in
     let equal = sym (told .before .before .before .before .equal-lengths .ensures) ∙ not-false (told .before .before .before .before .equal-lengths .result) (told .before .before .before .if3 .left) in
     let sound = sym (told .before .before .check-list .ensures) ∙ ap passOf (told .enum-told .given .1) in
-    let judged = c .before .before .before .before .before .check in
+    let judged = at-before .check in
     let right = sym (judged .ensures) ∙ fault-none (judged .result .number) (judged .result .place) passed (c .before .before .before .if4 .left) in
     not-adapted (a .k) cs (a .marks .now) m 14 _
     (no-room-14 (a .k) cs (a .marks .now) m long equal sound right (c .before .before .count .result) (c .before .before .count .ensures) (c .before .if5 .left) (c .if6 .taken))
 
 write-requires : tie.Need-write-requires
 write-requires c κs =
-    let told = c .before .before .before .before .before .before .before .before .before in
+    let at-if4 = c .before .before .before .before .before .before in
+    let at-before = at-if4 .before .before in
+    let told = at-before .before in
     let a = told .before .before .before .before .before .before .before .before .before .before .before .before .before .before .before .args in
     let cs = columns (a .roots .now) (a .levels .now) (a .positions .now) in
     let m = columns (a .new-roots .now) (a .new-levels .now) (a .new-positions .now) in
     let long = told .before .before .before .before .before .if2 .left in
     let equal = sym (told .before .before .before .before .equal-lengths .ensures) ∙ not-false (told .before .before .before .before .equal-lengths .result) (told .before .before .before .if3 .left) in
     let sound = sym (told .before .before .check-list .ensures) ∙ ap passOf (told .enum-told .given .1) in
-    let judged = c .before .before .before .before .before .before .before .before .check in
-    let right = sym (judged .ensures) ∙ fault-none (judged .result .number) (judged .result .place) passed (c .before .before .before .before .before .before .if4 .left) in
+    let judged = at-before .check in
+    let right = sym (judged .ensures) ∙ fault-none (judged .result .number) (judged .result .place) passed (at-if4 .if4 .left) in
     let counted = c .before .before .before .before .before .count in (
       omega arith,
       (
@@ -146,18 +153,24 @@ same-length-3 c = search needs
 
 returns-8 : tie.Need-returns-8
 returns-8 c =
-    let told = c .before .before .before .before .before .before .before .before .before .before .before .before .before .before .before .before in
+    let at-write = c .before .before .before .before .before .before in
+    let at-if6 = at-write .before .before .before .before in
+    let at-if5 = at-if6 .before in
+    let at-count = at-if5 .before in
+    let at-if4 = at-count .before in
+    let at-before = at-if4 .before .before in
+    let told = at-before .before in
     let a = told .before .before .before .before .before .before .before .before .before .before .before .before .before .before .before .args in
     let cs = columns (a .roots .now) (a .levels .now) (a .positions .now) in
     let m = columns (a .new-roots .now) (a .new-levels .now) (a .new-positions .now) in
     let long = told .before .before .before .before .before .if2 .left in
     let equal = sym (told .before .before .before .before .equal-lengths .ensures) ∙ not-false (told .before .before .before .before .equal-lengths .result) (told .before .before .before .if3 .left) in
     let sound = sym (told .before .before .check-list .ensures) ∙ ap passOf (told .enum-told .given .1) in
-    let judged = c .before .before .before .before .before .before .before .before .before .before .before .before .before .before .before .check in
-    let right = sym (judged .ensures) ∙ fault-none (judged .result .number) (judged .result .place) passed (c .before .before .before .before .before .before .before .before .before .before .before .before .before .if4 .left) in
-    let counted = c .before .before .before .before .before .before .before .before .before .before .before .before .count in
-    is-adapted (a .k) cs (a .marks .now) m long equal sound right (counted .result) (counted .ensures) (c .before .before .before .before .before .before .before .before .before .before .before .if5 .left) (c .before .before .before .before .before .before .before .before .before .before .if6 .left) _
-    (c .before .before .before .before .before .before .write .ensures)
+    let judged = at-before .check in
+    let right = sym (judged .ensures) ∙ fault-none (judged .result .number) (judged .result .place) passed (at-if4 .if4 .left) in
+    let counted = at-count .count in
+    is-adapted (a .k) cs (a .marks .now) m long equal sound right (counted .result) (counted .ensures) (at-if5 .if5 .left) (at-if6 .if6 .left) _
+    (at-write .write .ensures)
 
 pub adapt-spec : {M : Type 1} → statement M
 adapt-spec =

@@ -22,8 +22,9 @@ shared-slice-read-if1 c = omega arith
 
 returns : tie.Need-returns Inv-loop μ-loop
 returns c =
+    let at-loop = c .before .before .before in
     let a = c .before .before .before .before .args in
-    sound-not (markFault (a .marks .now)) (length (a .marks .now)) (c .before .before .before .loop .i) 12 (c .before .before .loop-test .taken) (simp (lt-ltb 2 (getD (a .marks .now) (c .before .before .before .loop .i) 0) (c .if1 .taken))) (c .before .before .before .loop .inv .1)
+    sound-not (markFault (a .marks .now)) (length (a .marks .now)) (at-loop .loop .i) 12 (c .before .before .loop-test .taken) (simp (lt-ltb 2 (getD (a .marks .now) (at-loop .loop .i) 0) (c .if1 .taken))) (at-loop .loop .inv .1)
 
 add-i : tie.Need-add-i Inv-loop μ-loop
 add-i c = omega arith
@@ -33,8 +34,9 @@ loop-less c = omega arith
 
 loop-again : tie.Need-loop-again Inv-loop μ-loop
 loop-again c =
+    let at-loop = c .before .before .before in
     let a = c .before .before .before .before .args in
-    (omega arith, sound-next (markFault (a .marks .now)) (length (a .marks .now)) (c .before .before .before .loop .i) (c .before .before .loop-test .taken) (simp (le-ltb 2 (getD (a .marks .now) (c .before .before .before .loop .i) 0) (c .if1 .left))) (c .before .before .before .loop .inv .1))
+    (omega arith, sound-next (markFault (a .marks .now)) (length (a .marks .now)) (at-loop .loop .i) (c .before .before .loop-test .taken) (simp (le-ltb 2 (getD (a .marks .now) (at-loop .loop .i) 0) (c .if1 .left))) (at-loop .loop .inv .1))
 
 returns-2 : tie.Need-returns-2 Inv-loop μ-loop
 returns-2 c = sound-all (markFault (c .before .before .args .marks .now)) (length (c .before .before .args .marks .now)) (c .before .loop .i) (c .loop-test .left) (c .before .loop .inv .1)

@@ -36,10 +36,12 @@ too-deep-requires c κs = c .before .before .before .before .before .if1 .left
 
 returns-4 : tie.Need-returns-4
 returns-4 c =
-    let a = c .before .before .before .before .before .before .before .before .before .args in
+    let at-if1 = c .before .before .before .before .before .before in
+    let start = at-if1 .before .before .before in
+    let a = start .args in
     let above = c .before .before .before .above-two in
     let none = fault-none (above .result .number) (above .result .place) passed (c .before .if3 .left) in
-    c .too-deep .ensures ∙ sym (then-deep (a .highest) (a .levels .now) (a .marks .now) (c .before .before .before .before .before .before .if1 .left) (sym (above .ensures) ∙ none))
+    c .too-deep .ensures ∙ sym (then-deep (a .highest) (a .levels .now) (a .marks .now) (at-if1 .if1 .left) (sym (above .ensures) ∙ none))
 
 pub check-spec : {M : Type 1} → statement M
 check-spec =

@@ -31,8 +31,10 @@ refines-deep-requires c κs = search needs
 
 returns : tie.Need-returns Inv-loop μ-loop
 returns c =
-    let a = c .before .before .before .before .before .before .before .before .args in
-    sound-not (depthFault (a .highest) (a .levels .now) (a .marks .now)) (length (a .marks .now)) (c .before .before .before .before .before .loop .i) 6 (c .before .before .before .before .loop-test .taken) (simp (sym (c .before .refines-deep .ensures), (c .if1 .taken))) (c .before .before .before .before .before .loop .inv .1)
+    let at-loop = c .before .before .before .before .before in
+    let start = at-loop .before .before .before in
+    let a = start .args in
+    sound-not (depthFault (a .highest) (a .levels .now) (a .marks .now)) (length (a .marks .now)) (at-loop .loop .i) 6 (c .before .before .before .before .loop-test .taken) (simp (sym (c .before .refines-deep .ensures), (c .if1 .taken))) (at-loop .loop .inv .1)
 
 add-i : tie.Need-add-i Inv-loop μ-loop
 add-i c = omega arith
@@ -42,8 +44,10 @@ loop-less c = omega arith
 
 loop-again : tie.Need-loop-again Inv-loop μ-loop
 loop-again c =
-    let a = c .before .before .before .before .before .before .before .before .args in
-    (omega arith, sound-next (depthFault (a .highest) (a .levels .now) (a .marks .now)) (length (a .marks .now)) (c .before .before .before .before .before .loop .i) (c .before .before .before .before .loop-test .taken) (simp (sym (c .before .refines-deep .ensures), (c .if1 .left))) (c .before .before .before .before .before .loop .inv .1))
+    let at-loop = c .before .before .before .before .before in
+    let start = at-loop .before .before .before in
+    let a = start .args in
+    (omega arith, sound-next (depthFault (a .highest) (a .levels .now) (a .marks .now)) (length (a .marks .now)) (at-loop .loop .i) (c .before .before .before .before .loop-test .taken) (simp (sym (c .before .refines-deep .ensures), (c .if1 .left))) (at-loop .loop .inv .1))
 
 returns-2 : tie.Need-returns-2 Inv-loop μ-loop
 returns-2 c =

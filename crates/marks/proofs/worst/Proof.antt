@@ -40,8 +40,10 @@ loop-less c = omega arith
 
 loop-again : tie.Need-loop-again Inv-loop μ-loop
 loop-again c =
-    let a = c .before .before .before .before .before .before .before .before .args in
-    (omega arith, faultless-more (a .highest) (a .levels .now) (a .marks .now) (c .before .before .before .before .before .loop .i) (c .before .before .before .before .before .loop .most) (c .before .either .result) (c .worse .result) (c .before .before .before .before .before .loop .inv .1) (c .before .either .ensures) (c .worse .ensures))
+    let at-loop = c .before .before .before .before .before in
+    let start = at-loop .before .before .before in
+    let a = start .args in
+    (omega arith, faultless-more (a .highest) (a .levels .now) (a .marks .now) (at-loop .loop .i) (at-loop .loop .most) (c .before .either .result) (c .worse .result) (at-loop .loop .inv .1) (c .before .either .ensures) (c .worse .ensures))
 
 returns : tie.Need-returns Inv-loop μ-loop
 returns c =

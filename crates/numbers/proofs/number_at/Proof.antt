@@ -42,9 +42,10 @@ cast-middle c = omega (arith, (c .shared-slice-known2 .given) ((c .before .befor
 
 returns-4 : tie.Need-returns-4
 returns-4 c =
-    let start = c .before .before .before .before .before .before in
+    let at-before = c .before .before .before .before .before in
+    let start = at-before .before in
     let a = start .args in
-    sym (second-zero (a .bytes .now) (a .at) (c .before .before .before .before .before .if1 .left) (c .before .before .before .if2 .left) (c .before .before .if3 .left) (c .if4 .taken))
+    sym (second-zero (a .bytes .now) (a .at) (at-before .if1 .left) (c .before .before .before .if2 .left) (c .before .before .if3 .left) (c .if4 .taken))
 
 mul-t15 : tie.Need-mul-t15
 mul-t15 c = search needs
@@ -57,18 +58,20 @@ add-t17 c = search needs
 
 returns-5 : tie.Need-returns-5
 returns-5 c =
-    let start = c .before .before .before .before .before .before .before in
+    let at-before = c .before .before .before .before .before .before in
+    let start = at-before .before in
     let a = start .args in
-    sym (two-bytes (a .bytes .now) (a .at) (c .before .before .before .before .before .before .if1 .left) (c .before .before .before .before .if2 .left) (c .before .before .before .if3 .left) (c .before .if4 .left) (c .if5 .taken))
+    sym (two-bytes (a .bytes .now) (a .at) (at-before .if1 .left) (c .before .before .before .before .if2 .left) (c .before .before .before .if3 .left) (c .before .if4 .left) (c .if5 .taken))
 
 add-if6 : tie.Need-add-if6
 add-if6 c = search needs
 
 returns-6 : tie.Need-returns-6
 returns-6 c =
-    let start = c .before .before .before .before .before .before .before .before in
+    let at-before = c .before .before .before .before .before .before .before in
+    let start = at-before .before in
     let a = start .args in
-    sym (no-third (a .bytes .now) (a .at) (c .before .before .before .before .before .before .before .if1 .left) (c .before .before .before .before .before .if2 .left) (c .before .before .before .before .if3 .left) (c .before .before .if4 .left) (c .before .if5 .left) (c .if6 .taken))
+    sym (no-third (a .bytes .now) (a .at) (at-before .if1 .left) (c .before .before .before .before .before .if2 .left) (c .before .before .before .before .if3 .left) (c .before .before .if4 .left) (c .before .if5 .left) (c .if6 .taken))
 
 add-high : tie.Need-add-high
 add-high c = search needs
@@ -81,42 +84,60 @@ cast-high c = omega (arith, (c .shared-slice-known3 .given) ((c .before .before 
 
 returns-7 : tie.Need-returns-7
 returns-7 c =
-    let start = c .before .before .before .before .before .before .before .before .before .before in
+    let at-if3 = c .before .before .before .before .before .before in
+    let at-if2 = at-if3 .before in
+    let at-before = at-if2 .before .before in
+    let start = at-before .before in
     let a = start .args in
-    sym (third-zero (a .bytes .now) (a .at) (c .before .before .before .before .before .before .before .before .before .if1 .left) (c .before .before .before .before .before .before .before .if2 .left) (c .before .before .before .before .before .before .if3 .left) (c .before .before .before .before .if4 .left) (c .before .before .before .if5 .left) (c .before .before .if6 .left) (c .if7 .taken))
+    sym (third-zero (a .bytes .now) (a .at) (at-before .if1 .left) (at-if2 .if2 .left) (at-if3 .if3 .left) (c .before .before .before .before .if4 .left) (c .before .before .before .if5 .left) (c .before .before .if6 .left) (c .if7 .taken))
 
 returns-8 : tie.Need-returns-8
 returns-8 c =
-    let start = c .before .before .before .before .before .before .before .before .before .before .before in
+    let at-if3 = c .before .before .before .before .before .before .before in
+    let at-if2 = at-if3 .before in
+    let at-before = at-if2 .before .before in
+    let start = at-before .before in
     let a = start .args in
-    sym (third-more (a .bytes .now) (a .at) (c .before .before .before .before .before .before .before .before .before .before .if1 .left) (c .before .before .before .before .before .before .before .before .if2 .left) (c .before .before .before .before .before .before .before .if3 .left) (c .before .before .before .before .before .if4 .left) (c .before .before .before .before .if5 .left) (c .before .before .before .if6 .left) (c .before .if7 .left) (c .if8 .taken))
+    sym (third-more (a .bytes .now) (a .at) (at-before .if1 .left) (at-if2 .if2 .left) (at-if3 .if3 .left) (c .before .before .before .before .before .if4 .left) (c .before .before .before .before .if5 .left) (c .before .before .before .if6 .left) (c .before .if7 .left) (c .if8 .taken))
 
 mul-t22 : tie.Need-mul-t22
-mul-t22 c = omega (arith, (c .before .before .before .before .before .before .shared-slice-known2 .given) ((c .before .before .before .before .before .before .before .before .before .before .before .args .at) + 1))
+mul-t22 c =
+    let at-shared-slice-known2 = c .before .before .before .before .before .before in
+    let start = at-shared-slice-known2 .before .before .before .before .before in
+    omega (arith, (at-shared-slice-known2 .shared-slice-known2 .given) ((start .args .at) + 1))
 
 add-t23 : tie.Need-add-t23
 add-t23 c =
-    let start = c .before .before .before .before .before .before .before .before .before .before .before in
+    let at-shared-slice-known2 = c .before .before .before .before .before .before in
+    let at-shared-slice-known = at-shared-slice-known2 .before .before .before in
+    let at-before = at-shared-slice-known .before in
+    let start = at-before .before in
     let a = start .args in
-    omega (arith, (c .before .before .before .before .before .before .before .before .before .shared-slice-known .given) (a .at), (c .before .before .before .before .before .before .shared-slice-known2 .given) ((a .at) + 1))
+    omega (arith, (at-shared-slice-known .shared-slice-known .given) (a .at), (at-shared-slice-known2 .shared-slice-known2 .given) ((a .at) + 1))
 
 mul-t24 : tie.Need-mul-t24
 mul-t24 c = search needs
 
 add-t25 : tie.Need-add-t25
 add-t25 c =
-    let start = c .before .before .before .before .before .before .before .before .before .before .before in
+    let at-shared-slice-known2 = c .before .before .before .before .before .before in
+    let at-shared-slice-known = at-shared-slice-known2 .before .before .before in
+    let at-before = at-shared-slice-known .before in
+    let start = at-before .before in
     let a = start .args in
-    omega (arith, (c .before .before .before .before .before .before .before .before .before .shared-slice-known .given) (a .at), (c .before .before .before .before .before .before .shared-slice-known2 .given) ((a .at) + 1))
+    omega (arith, (at-shared-slice-known .shared-slice-known .given) (a .at), (at-shared-slice-known2 .shared-slice-known2 .given) ((a .at) + 1))
 
 add-t18 : tie.Need-add-t18
 add-t18 c = search needs
 
 returns-9 : tie.Need-returns-9
 returns-9 c =
-    let start = c .before .before .before .before .before .before .before .before .before .before .before in
+    let at-if3 = c .before .before .before .before .before .before .before in
+    let at-if2 = at-if3 .before in
+    let at-before = at-if2 .before .before in
+    let start = at-before .before in
     let a = start .args in
-    sym (three-bytes (a .bytes .now) (a .at) (c .before .before .before .before .before .before .before .before .before .before .if1 .left) (c .before .before .before .before .before .before .before .before .if2 .left) (c .before .before .before .before .before .before .before .if3 .left) (c .before .before .before .before .before .if4 .left) (c .before .before .before .before .if5 .left) (c .before .before .before .if6 .left) (c .before .if7 .left) (c .if8 .left))
+    sym (three-bytes (a .bytes .now) (a .at) (at-before .if1 .left) (at-if2 .if2 .left) (at-if3 .if3 .left) (c .before .before .before .before .before .if4 .left) (c .before .before .before .before .if5 .left) (c .before .before .before .if6 .left) (c .before .if7 .left) (c .if8 .left))
 
 pub number-at-spec : {M : Type 1} → statement M
 number-at-spec =

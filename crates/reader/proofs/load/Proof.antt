@@ -49,10 +49,15 @@ same-length-3 c = search needs
 
 returns-3 : tie.Need-returns-3
 returns-3 c =
-    let start = c .before .before .before .before .before .before .before .before .before .before .before .before .before .before .before .before .before .before .before in
+    let at-columns = c .before .before .before .before .before .before in
+    let at-if2 = at-columns .before .before .before .before in
+    let at-if1 = at-if2 .before .before in
+    let at-sound = at-if1 .before .before in
+    let at-before = at-sound .before .before .before .before in
+    let start = at-before .before in
     let a = start .args in
     let m = columns (a .roots .now) (a .levels .now) (a .positions .now) in
-    grid-loaded (a .bytes .now) (head (a .k) (a .runs) (a .at)) m _ (c .before .before .before .before .before .before .before .before .before .before .before .before .before .before .sound .ensures) (c .before .before .before .before .before .before .before .before .before .before .before .before .if1 .left) (c .before .before .before .before .before .before .before .before .before .before .if2 .left) _ (c .before .before .before .before .before .before .columns .ensures)
+    grid-loaded (a .bytes .now) (head (a .k) (a .runs) (a .at)) m _ (at-sound .sound .ensures) (at-if1 .if1 .left) (at-if2 .if2 .left) _ (at-columns .columns .ensures)
 
 pub load-spec : {M : Type 1} → statement M
 load-spec =

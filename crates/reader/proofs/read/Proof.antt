@@ -46,12 +46,18 @@ same-length-3 c = search needs
 
 returns-2 : tie.Need-returns-2
 returns-2 c =
-    let start = c .before .before .before .before .before .before .before .before .before .before .before .before .before .before .before .before .before .before .before .before in
+    let at-load = c .before .before .before .before .before .before in
+    let at-k = at-load .before .before .before .before .before in
+    let at-head-at = at-k .before .before in
+    let at-if1 = at-head-at .before in
+    let at-equal-lengths = at-if1 .before in
+    let at-before = at-equal-lengths .before .before .before .before in
+    let start = at-before .before in
     let a = start .args in
     let m = columns (a .roots .now) (a .levels .now) (a .positions .now) in
-    let equal = c .before .before .before .before .before .before .before .before .before .before .before .before .before .before .before .equal-lengths in
-    head-read (a .bytes .now) m (sym (equal .ensures) ∙ not-false (equal .result) (c .before .before .before .before .before .before .before .before .before .before .before .before .before .before .if1 .left)) _ _ _
-    (sym (c .before .before .before .before .before .before .before .before .before .before .before .before .before .head-at .ensures) ∙ ap headOf (c .before .before .before .before .before .before .before .before .before .before .before .k .given .1)) (c .before .before .before .before .before .before .load .ensures)
+    let equal = at-equal-lengths .equal-lengths in
+    head-read (a .bytes .now) m (sym (equal .ensures) ∙ not-false (equal .result) (at-if1 .if1 .left)) _ _ _
+    (sym (at-head-at .head-at .ensures) ∙ ap headOf (at-k .k .given .1)) (at-load .load .ensures)
 
 returns-3 : tie.Need-returns-3
 returns-3 c =

@@ -26,10 +26,16 @@ enum-known-number : tie.Need-enum-known-number
 enum-known-number c = search needs
 
 returns-2 : tie.Need-returns-2
-returns-2 c = (c .after-roots .ensures) ∙ sym (roots-read (c .before .before .before .before .before .before .before .before .args .bytes .now) (sym (c .before .before .before .before .before .before .tagged .ensures) ∙ not-false (c .before .before .before .before .before .before .tagged .result) (c .before .before .before .before .before .if1 .left)) _ (sym (c .before .before .before .before .number-at .ensures) ∙ ap foundOf (c .before .before .k .given .1)))
+returns-2 c =
+    let at-tagged = c .before .before .before .before .before .before in
+    let start = at-tagged .before .before in
+    (c .after-roots .ensures) ∙ sym (roots-read (start .args .bytes .now) (sym (at-tagged .tagged .ensures) ∙ not-false (at-tagged .tagged .result) (c .before .before .before .before .before .if1 .left)) _ (sym (c .before .before .before .before .number-at .ensures) ∙ ap foundOf (c .before .before .k .given .1)))
 
 returns-3 : tie.Need-returns-3
-returns-3 c = sym (roots-refused (c .before .before .before .before .before .before .before .args .bytes .now) (sym (c .before .before .before .before .before .tagged .ensures) ∙ not-false (c .before .before .before .before .before .tagged .result) (c .before .before .before .before .if1 .left)) _ _ (sym (c .before .before .before .number-at .ensures) ∙ ap foundOf (c .before .number .given .1)))
+returns-3 c =
+    let at-tagged = c .before .before .before .before .before in
+    let start = at-tagged .before .before in
+    sym (roots-refused (start .args .bytes .now) (sym (at-tagged .tagged .ensures) ∙ not-false (at-tagged .tagged .result) (c .before .before .before .before .if1 .left)) _ _ (sym (c .before .before .before .number-at .ensures) ∙ ap foundOf (c .before .number .given .1)))
 
 pub head-at-spec : {M : Type 1} → statement M
 head-at-spec =

@@ -31,13 +31,16 @@ shared-slice-read-t : tie.Need-shared-slice-read-t Inv-loop μ-loop
 shared-slice-read-t c = omega (arith, c .before .loop-test .taken, c .before .before .before .before .before .before .before .pre .1 .marks-long)
 
 begins-requires : tie.Need-begins-requires Inv-loop μ-loop
-begins-requires c κs = (c .before .before .before .before .before .before .before .before .pre .0, (c .before .before .loop-test .taken, c .before .before .before .before .before .before .before .before .pre .1))
+begins-requires c κs =
+    let start = c .before .before .before .before .before .before .before .before in
+    (start .pre .0, (c .before .before .loop-test .taken, start .pre .1))
 
 made-requires : tie.Need-made-requires Inv-loop μ-loop
 made-requires c κs = c .before .before .before .before .before .before .before .before .pre .0
 
 add-size : tie.Need-add-size Inv-loop μ-loop
 add-size c =
+    let start = c .before .before .before .before .before .before .before .before .before in
     let joined = c .before in
     let a = joined .before .before .before .before .before .before .before .before .args in
     let cs = columns (a .roots .now) (a .levels .now) (a .positions .now) in
@@ -57,7 +60,7 @@ add-size c =
     omega (
       arith,
       along-few (2 ^ a .bits) (pow-pos (a .bits)) (leaves cs) (a .marks .now) _ _ next
-          (omega (arith, ready .few, leaves-length cs)) (few-children (a .bits) (c .before .before .before .before .before .before .before .before .before .pre .0)),
+          (omega (arith, ready .few, leaves-length cs)) (few-children (a .bits) (start .pre .0)),
     )
 
 taken-requires : tie.Need-taken-requires Inv-loop μ-loop
@@ -65,7 +68,8 @@ taken-requires c κs = c .before .before .before .before .before .before .before
 
 add-i : tie.Need-add-i Inv-loop μ-loop
 add-i c =
-    let joined = c .before .before in
+    let at-before = c .before in
+    let joined = at-before .before in
     let a = joined .before .before .before .before .before .before .before .before .args in
     let cs = columns (a .roots .now) (a .levels .now) (a .positions .now) in
     let ready = joined .before .before .before .before .before .before .before .before .pre .1 in
@@ -80,7 +84,7 @@ add-i c =
     (joined .if1 .came) in
     let in-list : now-at .i < length (leaves cs) = omega (arith, inside, leaves-length cs) in
     let next = along-next (2 ^ a .bits) (pow-pos (a .bits)) (leaves cs) (a .marks .now) (now-at .i) (now-at .size) (now-at .inv) in-list
-    t (c .taken .result) (c .before .made .result) is-turn (c .taken .ensures) (c .before .made .ensures) in
+    t (c .taken .result) (at-before .made .result) is-turn (c .taken .ensures) (at-before .made .ensures) in
     omega (arith, next .upto, ready .few, leaves-length cs)
 
 loop-less : tie.Need-loop-less Inv-loop μ-loop
@@ -91,7 +95,8 @@ loop-less c =
 
 loop-again : tie.Need-loop-again Inv-loop μ-loop
 loop-again c =
-    let joined = c .before .before in
+    let at-before = c .before in
+    let joined = at-before .before in
     let a = joined .before .before .before .before .before .before .before .before .args in
     let cs = columns (a .roots .now) (a .levels .now) (a .positions .now) in
     let ready = joined .before .before .before .before .before .before .before .before .pre .1 in
@@ -106,7 +111,7 @@ loop-again c =
     (joined .if1 .came) in
     let in-list : now-at .i < length (leaves cs) = omega (arith, inside, leaves-length cs) in
     along-next (2 ^ a .bits) (pow-pos (a .bits)) (leaves cs) (a .marks .now) (now-at .i) (now-at .size) (now-at .inv) in-list
-    t (c .taken .result) (c .before .made .result) is-turn (c .taken .ensures) (c .before .made .ensures)
+    t (c .taken .result) (at-before .made .result) is-turn (c .taken .ensures) (at-before .made .ensures)
 
 returns : tie.Need-returns Inv-loop μ-loop
 returns c =

@@ -27,17 +27,24 @@ abbrev μ-loop : tie.MeasureT-loop
 
 loop-holds : tie.Need-loop-holds Inv-loop μ-loop
 loop-holds c =
-    let a = c .before .before .before .before .before .before .before .args in
+    let start = c .before .before .before .before .before .before .before in
+    let a = start .args in
     underway-none (2 ^ a .bits) (pow-pos (a .bits)) (leaves (columns (a .roots .now) (a .levels .now) (a .positions .now))) (a .marks .now) (columns (a .new-roots .now) (a .new-levels .now) (a .new-positions .now))
 
 shared-slice-read-t : tie.Need-shared-slice-read-t Inv-loop μ-loop
-shared-slice-read-t c = omega (arith, c .before .loop-test .taken, c .before .before .before .before .before .before .before .before .before .before .pre .1 .0 .marks-long)
+shared-slice-read-t c =
+    let start = c .before .before .before .before .before .before .before .before .before .before in
+    omega (arith, c .before .loop-test .taken, start .pre .1 .0 .marks-long)
 
 begins-requires : tie.Need-begins-requires Inv-loop μ-loop
-begins-requires c κs = (c .before .before .before .before .before .before .before .before .before .before .before .pre .0, (c .before .before .loop-test .taken, c .before .before .before .before .before .before .before .before .before .before .before .pre .1 .0))
+begins-requires c κs =
+    let start = c .before .before .before .before .before .before .before .before .before .before .before in
+    (start .pre .0, (c .before .before .loop-test .taken, start .pre .1 .0))
 
 shared-slice-read-level : tie.Need-shared-slice-read-level Inv-loop μ-loop
-shared-slice-read-level c = omega (arith, c .before .before .before .loop-test .taken, c .before .before .before .before .before .before .before .before .before .before .before .before .pre .1 .0 .levels-long)
+shared-slice-read-level c =
+    let start = c .before .before .before .before .before .before .before .before .before .before .before .before in
+    omega (arith, c .before .before .before .loop-test .taken, start .pre .1 .0 .levels-long)
 
 level-requires : tie.Need-level-requires Inv-loop μ-loop
 level-requires c κs =
@@ -62,10 +69,13 @@ mul-position : tie.Need-mul-position Inv-loop μ-loop
 mul-position c = search needs
 
 shared-slice-read-position : tie.Need-shared-slice-read-position Inv-loop μ-loop
-shared-slice-read-position c = omega (arith, c .before .before .before .before .before .loop-test .taken, c .before .before .before .before .before .before .before .before .before .before .before .before .before .before .pre .1 .0 .positions-long)
+shared-slice-read-position c =
+    let start = c .before .before .before .before .before .before .before .before .before .before .before .before .before .before in
+    omega (arith, c .before .before .before .before .before .loop-test .taken, start .pre .1 .0 .positions-long)
 
 position-requires : tie.Need-position-requires Inv-loop μ-loop
 position-requires c κs =
+    let start = c .before .before .before .before .before .before .before .before .before .before .before .before .before .before in
     let joined = c .before .before .before in
     let a = joined .before .before .before .before .before .before .before .before .before .before .before .args in
     let cs = columns (a .roots .now) (a .levels .now) (a .positions .now) in
@@ -79,7 +89,7 @@ position-requires c κs =
     (λ w. turn-family (2 ^ a .bits) (pow-pos (a .bits)) cs (a .marks .now) (now-at .i) inside t (w .0 .taken) (sym (w .1 .ensures) ∙ not-false (w .1 .result) (w .2 .left)) (w .3))
     (λ w. turn-mark (2 ^ a .bits) (pow-pos (a .bits)) cs (a .marks .now) (now-at .i) inside t ready (w .0 .left) (w .1)))
     (joined .if1 .came) in
-    (c .before .before .before .before .before .before .before .before .before .before .before .before .before .before .pre .0, position-below (2 ^ a .bits) (pow-pos (a .bits)) cs (a .marks .now) ready (now-at .i) inside (now-at .inv .along .clear) t is-turn)
+    (start .pre .0, position-below (2 ^ a .bits) (pow-pos (a .bits)) cs (a .marks .now) ready (now-at .i) inside (now-at .inv .along .clear) t is-turn)
 
 mul-lay : tie.Need-mul-lay Inv-loop μ-loop
 mul-lay c = search needs
@@ -89,7 +99,10 @@ shared-slice-read-lay c = omega (arith, c .before .before .before .before .befor
 
 lay-requires : tie.Need-lay-requires Inv-loop μ-loop
 lay-requires c κs =
-    let joined = c .before .before .before .before .before .before .before .before in
+    let at-position = c .before .before .before .before in
+    let at-before = at-position .before .before .before in
+    let start = at-before .before .before .before .before .before .before .before .before .before .before .before .before in
+    let joined = at-before .before in
     let a = joined .before .before .before .before .before .before .before .before .before .before .before .args in
     let cs = columns (a .roots .now) (a .levels .now) (a .positions .now) in
     let ready = joined .before .before .before .before .before .before .before .before .before .before .before .pre .1 .0 in
@@ -103,21 +116,25 @@ lay-requires c κs =
     (λ w. turn-mark (2 ^ a .bits) (pow-pos (a .bits)) cs (a .marks .now) (now-at .i) inside t ready (w .0 .left) (w .1)))
     (joined .if1 .came) in
     let fit = positions-fit (2 ^ a .bits) (pow-pos (a .bits)) cs (a .marks .now) ready (now-at .i) inside (now-at .inv .along .clear) t is-turn
-    (c .before .before .before .before .position .result) (c .before .before .before .before .position .ensures) in (
-      c .before .before .before .before .before .before .before .before .before .before .before .before .before .before .before .before .before .before .before .pre .0,
+    (at-position .position .result) (at-position .position .ensures) in (
+      start .pre .0,
       (
         fit,
         room-for (2 ^ a .bits) (pow-pos (a .bits)) (leaves cs) (a .marks .now) (columns (a .new-roots .now) (a .new-levels .now) (a .new-positions .now)) (now-at .i) (now-at .size) (columns (now-at .new-roots) (now-at .new-levels) (now-at .new-positions)) (now-at .inv)
-            (c .before .before .before .before .before .before .before .before .before .before .before .before .before .before .before .before .before .before .before .pre .1 .1) (omega (arith, inside, leaves-length cs)) t is-turn,
+            (start .pre .1 .1) (omega (arith, inside, leaves-length cs)) t is-turn,
       ),
     )
 
 made-requires : tie.Need-made-requires Inv-loop μ-loop
-made-requires c κs = c .before .before .before .before .before .before .before .before .before .before .before .before .before .before .before .before .before .before .before .before .before .before .before .before .before .before .pre .0
+made-requires c κs =
+    let start = c .before .before .before .before .before .before .before .before .before .before .before .before .before .before .before .before .before .before .before .before .before .before .before .before .before .before in
+    start .pre .0
 
 add-size : tie.Need-add-size Inv-loop μ-loop
 add-size c =
-    let joined = c .before .before .before .before .before .before .before .before .before .before .before .before .before .before .before .before in
+    let at-before = c .before .before .before .before .before .before .before .before .before .before .before .before .before .before .before in
+    let start = at-before .before .before .before .before .before .before .before .before .before .before .before .before in
+    let joined = at-before .before in
     let a = joined .before .before .before .before .before .before .before .before .before .before .before .args in
     let cs = columns (a .roots .now) (a .levels .now) (a .positions .now) in
     let ready = joined .before .before .before .before .before .before .before .before .before .before .before .pre .1 .0 in
@@ -136,15 +153,18 @@ add-size c =
     omega (
       arith,
       along-few (2 ^ a .bits) (pow-pos (a .bits)) (leaves cs) (a .marks .now) _ _ next
-          (omega (arith, ready .few, leaves-length cs)) (few-children (a .bits) (c .before .before .before .before .before .before .before .before .before .before .before .before .before .before .before .before .before .before .before .before .before .before .before .before .before .before .before .pre .0)),
+          (omega (arith, ready .few, leaves-length cs)) (few-children (a .bits) (start .pre .0)),
     )
 
 taken-requires : tie.Need-taken-requires Inv-loop μ-loop
-taken-requires c κs = c .before .before .before .before .before .before .before .before .before .before .before .before .before .before .before .before .before .before .before .before .before .before .before .before .before .before .before .pre .0
+taken-requires c κs =
+    let start = c .before .before .before .before .before .before .before .before .before .before .before .before .before .before .before .before .before .before .before .before .before .before .before .before .before .before .before in
+    start .pre .0
 
 add-i : tie.Need-add-i Inv-loop μ-loop
 add-i c =
-    let joined = c .before .before .before .before .before .before .before .before .before .before .before .before .before .before .before .before .before in
+    let at-before = c .before .before .before .before .before .before .before .before .before .before .before .before .before .before .before .before in
+    let joined = at-before .before in
     let a = joined .before .before .before .before .before .before .before .before .before .before .before .args in
     let cs = columns (a .roots .now) (a .levels .now) (a .positions .now) in
     let ready = joined .before .before .before .before .before .before .before .before .before .before .before .pre .1 .0 in
@@ -164,13 +184,21 @@ add-i c =
 
 loop-less : tie.Need-loop-less Inv-loop μ-loop
 loop-less c =
-    let bits = c .before .before .before .before .before .before .before .before .before .before .before .before .before .before .before .before .before .before .before .before .before .before .before .before .before .before .before .before .args .bits in
-    let some : 0 < c .taken .result = rw (c .taken .ensures) (stride-pos (2 ^ bits) (pow-pos bits) (c .before .before .before .before .before .before .before .before .before .before .before .before .before .before .before .before .before .if1 .t)) in
-    omega (arith, c .before .before .before .before .before .before .before .before .before .before .before .before .before .before .before .before .before .before .before .loop-test .taken, some)
+    let at-if1 = c .before .before .before .before .before .before .before .before .before .before .before .before .before .before .before .before .before in
+    let at-loop-test = at-if1 .before .before in
+    let start = at-loop-test .before .before .before .before .before .before .before .before .before in
+    let bits = start .args .bits in
+    let some : 0 < c .taken .result = rw (c .taken .ensures) (stride-pos (2 ^ bits) (pow-pos bits) (at-if1 .if1 .t)) in
+    omega (arith, at-loop-test .loop-test .taken, some)
 
 loop-again : tie.Need-loop-again Inv-loop μ-loop
 loop-again c =
-    let joined = c .before .before .before .before .before .before .before .before .before .before .before .before .before .before .before .before .before in
+    let at-lay = c .before .before .before .before .before .before .before .before in
+    let at-position = at-lay .before .before .before .before .before in
+    let at-level = at-position .before .before in
+    let at-before = at-level .before in
+    let start = at-before .before .before .before .before .before .before .before .before .before .before .before .before in
+    let joined = at-before .before in
     let a = joined .before .before .before .before .before .before .before .before .before .before .before .args in
     let cs = columns (a .roots .now) (a .levels .now) (a .positions .now) in
     let ready = joined .before .before .before .before .before .before .before .before .before .before .before .pre .1 .0 in
@@ -184,32 +212,36 @@ loop-again c =
     (λ w. turn-mark (2 ^ a .bits) (pow-pos (a .bits)) cs (a .marks .now) (now-at .i) inside t ready (w .0 .left) (w .1)))
     (joined .if1 .came) in
     underway-next (2 ^ a .bits) (pow-pos (a .bits)) (leaves cs) (a .marks .now) (columns (a .new-roots .now) (a .new-levels .now) (a .new-positions .now)) (now-at .i) (now-at .size) (columns (now-at .new-roots) (now-at .new-levels) (now-at .new-positions)) (now-at .inv)
-    (c .before .before .before .before .before .before .before .before .before .before .before .before .before .before .before .before .before .before .before .before .before .before .before .before .before .before .before .before .pre .1 .1) (omega (arith, inside, leaves-length cs)) _ (leafAt cs (now-at .i))
-    t (c .before .before .before .before .before .before .before .before .before .before .before .before .before .before .before .level .result) (c .before .before .before .before .before .before .before .before .before .before .before .before .before .position .result) (c .taken .result) (c .before .made .result)
-    (sym (nth-leaves cs (now-at .i) inside)) is-turn (c .before .before .before .before .before .before .before .before .before .before .before .before .before .before .before .level .ensures) (c .before .before .before .before .before .before .before .before .before .before .before .before .before .position .ensures) (c .taken .ensures) (c .before .made .ensures)
-    (c .before .before .before .before .before .before .before .before .lay .ensures)
+    (start .pre .1 .1) (omega (arith, inside, leaves-length cs)) _ (leafAt cs (now-at .i))
+    t (at-level .level .result) (at-position .position .result) (c .taken .result) (c .before .made .result)
+    (sym (nth-leaves cs (now-at .i) inside)) is-turn (at-level .level .ensures) (at-position .position .ensures) (c .taken .ensures) (c .before .made .ensures)
+    (at-lay .lay .ensures)
 
 same-length : tie.Need-same-length Inv-loop μ-loop
 same-length c =
-    let a = c .before .before .before .before .before .before .before .before .before .args in
+    let start = c .before .before .before .before .before .before .before .before .before in
+    let a = start .args in
     let now-at = c .before .loop in
-    roots-stay (2 ^ a .bits) (pow-pos (a .bits)) (leaves (columns (a .roots .now) (a .levels .now) (a .positions .now))) (a .marks .now) (columns (a .new-roots .now) (a .new-levels .now) (a .new-positions .now)) (now-at .i) (now-at .size) (columns (now-at .new-roots) (now-at .new-levels) (now-at .new-positions)) (now-at .inv) (c .before .before .before .before .before .before .before .before .before .pre .1 .1)
+    roots-stay (2 ^ a .bits) (pow-pos (a .bits)) (leaves (columns (a .roots .now) (a .levels .now) (a .positions .now))) (a .marks .now) (columns (a .new-roots .now) (a .new-levels .now) (a .new-positions .now)) (now-at .i) (now-at .size) (columns (now-at .new-roots) (now-at .new-levels) (now-at .new-positions)) (now-at .inv) (start .pre .1 .1)
 
 same-length-2 : tie.Need-same-length-2 Inv-loop μ-loop
 same-length-2 c =
-    let a = c .before .before .before .before .before .before .before .before .before .args in
+    let start = c .before .before .before .before .before .before .before .before .before in
+    let a = start .args in
     let now-at = c .before .loop in
-    levels-stay (2 ^ a .bits) (pow-pos (a .bits)) (leaves (columns (a .roots .now) (a .levels .now) (a .positions .now))) (a .marks .now) (columns (a .new-roots .now) (a .new-levels .now) (a .new-positions .now)) (now-at .i) (now-at .size) (columns (now-at .new-roots) (now-at .new-levels) (now-at .new-positions)) (now-at .inv) (c .before .before .before .before .before .before .before .before .before .pre .1 .1)
+    levels-stay (2 ^ a .bits) (pow-pos (a .bits)) (leaves (columns (a .roots .now) (a .levels .now) (a .positions .now))) (a .marks .now) (columns (a .new-roots .now) (a .new-levels .now) (a .new-positions .now)) (now-at .i) (now-at .size) (columns (now-at .new-roots) (now-at .new-levels) (now-at .new-positions)) (now-at .inv) (start .pre .1 .1)
 
 same-length-3 : tie.Need-same-length-3 Inv-loop μ-loop
 same-length-3 c =
-    let a = c .before .before .before .before .before .before .before .before .before .args in
+    let start = c .before .before .before .before .before .before .before .before .before in
+    let a = start .args in
     let now-at = c .before .loop in
-    positions-stay (2 ^ a .bits) (pow-pos (a .bits)) (leaves (columns (a .roots .now) (a .levels .now) (a .positions .now))) (a .marks .now) (columns (a .new-roots .now) (a .new-levels .now) (a .new-positions .now)) (now-at .i) (now-at .size) (columns (now-at .new-roots) (now-at .new-levels) (now-at .new-positions)) (now-at .inv) (c .before .before .before .before .before .before .before .before .before .pre .1 .1)
+    positions-stay (2 ^ a .bits) (pow-pos (a .bits)) (leaves (columns (a .roots .now) (a .levels .now) (a .positions .now))) (a .marks .now) (columns (a .new-roots .now) (a .new-levels .now) (a .new-positions .now)) (now-at .i) (now-at .size) (columns (now-at .new-roots) (now-at .new-levels) (now-at .new-positions)) (now-at .inv) (start .pre .1 .1)
 
 returns : tie.Need-returns Inv-loop μ-loop
 returns c =
-    let a = c .before .before .before .before .before .before .before .before .before .args in
+    let start = c .before .before .before .before .before .before .before .before .before in
+    let a = start .args in
     let cs = columns (a .roots .now) (a .levels .now) (a .positions .now) in
     let now-at = c .before .loop in
     underway-all (2 ^ a .bits) (pow-pos (a .bits)) (leaves cs) (a .marks .now) (columns (a .new-roots .now) (a .new-levels .now) (a .new-positions .now)) (now-at .i) (now-at .size) (columns (now-at .new-roots) (now-at .new-levels) (now-at .new-positions)) (now-at .inv)

@@ -29,16 +29,19 @@ same-length-3 c = search needs
 
 returns : tie.Need-returns
 returns c =
-    let a = c .before .before .before .before .before .before .before .before .before .before .before .before .before .before .args in
+    let at-lay = c .before .before .before .before .before .before in
+    let at-if1 = at-lay .before .before .before .before in
+    let start = at-if1 .before .before .before .before in
+    let a = start .args in
     let m = columns (a .roots .now) (a .levels .now) (a .positions .now) in
     let many = 1 * 2 ^ a .bits % 2 ^ 64 in
-    let all : gain (2 ^ a .bits) (a .turn) ≡ 2 ^ a .bits = simp (eq-eqb (a .turn) 1 (c .before .before .before .before .before .before .before .before .before .before .if1 .taken)) in
-    let same : many ≡ gain (2 ^ a .bits) (a .turn) = one-shifted (a .bits) (c .before .before .before .before .before .before .before .before .before .before .before .before .before .before .pre .0) ∙ sym all in
+    let all : gain (2 ^ a .bits) (a .turn) ≡ 2 ^ a .bits = simp (eq-eqb (a .turn) 1 (at-if1 .if1 .taken)) in
+    let same : many ≡ gain (2 ^ a .bits) (a .turn) = one-shifted (a .bits) (start .pre .0) ∙ sym all in
     stored-as (a .at) (a .root) (a .level) (a .position) (gain (2 ^ a .bits) (a .turn)) m _ many same
     (laid-all (a .at) many (a .position) m (a .root) (a .level) _ _
-    (subst⁻¹ (λ (k : ℕ). a .position + k ≤ 18446744073709551615) same (c .before .before .before .before .before .before .before .before .before .before .before .before .before .before .pre .1 .0))
-    (subst⁻¹ (λ (k : ℕ). Room (a .at + k) m) same (c .before .before .before .before .before .before .before .before .before .before .before .before .before .before .pre .1 .1))
-    (c .before .before .before .before .before .before .lay .ensures))
+    (subst⁻¹ (λ (k : ℕ). a .position + k ≤ 18446744073709551615) same (start .pre .1 .0))
+    (subst⁻¹ (λ (k : ℕ). Room (a .at + k) m) same (start .pre .1 .1))
+    (at-lay .lay .ensures))
 
 mul-roots : tie.Need-mul-roots
 mul-roots c = search needs

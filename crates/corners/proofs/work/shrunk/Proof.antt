@@ -17,7 +17,8 @@ int-to-float-result c =
 returns : tie.Need-returns
 unfolding ofBits
 returns c =
-    ap (λ (z : ℤ). mul binary64 (ofInt binary64 z) (fin false 1 (negsuc 41))) (toZ-ofZ w64 (c .before .args .q) (c .before .fits .q)) ∙ product (c .before .args .q) (c .before .pre)
+    let start = c .before in
+    ap (λ (z : ℤ). mul binary64 (ofInt binary64 z) (fin false 1 (negsuc 41))) (toZ-ofZ w64 (start .args .q) (start .fits .q)) ∙ product (start .args .q) (start .pre)
 
 pub shrunk-spec : {M : Type 1} → statement M
 shrunk-spec = tie.close (tie.spec int-to-float-result returns)

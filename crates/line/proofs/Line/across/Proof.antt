@@ -16,11 +16,15 @@ moved-requires c κs = search needs
 
 returns : tie.Need-returns
 unfolding lineTo
-returns c = across-refused-10 (c .before .before .before .args .self) (c .before .before .before .args .face) (c .before .before .side .result) (c .before .moved .result) (c .before .before .side .ensures) (c .before .moved .ensures) (c .if1 .taken)
+returns c =
+    let start = c .before .before .before in
+    across-refused-10 (start .args .self) (start .args .face) (c .before .before .side .result) (c .before .moved .result) (c .before .before .side .ensures) (c .before .moved .ensures) (c .if1 .taken)
 
 returns-2 : tie.Need-returns-2
 unfolding lineTo
-returns-2 c = across-accepted (c .before .before .before .args .self) (c .before .before .before .args .face) (c .before .before .side .result) (c .before .moved .result) (c .before .before .side .ensures) (c .before .moved .ensures) (c .if1 .left)
+returns-2 c =
+    let start = c .before .before .before in
+    across-accepted (start .args .self) (start .args .face) (c .before .before .side .result) (c .before .moved .result) (c .before .before .side .ensures) (c .before .moved .ensures) (c .if1 .left)
 
 pub across-spec : {M : Type 1} → statement M
 across-spec = tie.close (tie.spec mul-moved side-requires moved-requires returns returns-2)

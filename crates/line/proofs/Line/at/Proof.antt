@@ -20,7 +20,10 @@ shl-if2 c = search needs
 
 returns-2 : tie.Need-returns-2
 unfolding lineTo
-returns-2 c = sym (at-refused-5 line (c .before .before .args .level) (c .before .before .args .position) (c .before .if1 .left) (rw (shifted-one (c .before .before .args .level) (2 ^ 64) (pow-lt {i = c .before .before .args .level} {j = 64} (omega arith))) at (c .if2 .taken)))
+returns-2 c =
+    let start = c .before .before in
+    let a = start .args in
+    sym (at-refused-5 line (a .level) (a .position) (c .before .if1 .left) (rw (shifted-one (a .level) (2 ^ 64) (pow-lt {i = a .level} {j = 64} (omega arith))) at (c .if2 .taken)))
 
 placed-requires : tie.Need-placed-requires
 unfolding lineTo
@@ -28,7 +31,10 @@ placed-requires c κs = (c .before .if1 .left, rw (shifted-one (c .before .befor
 
 returns-3 : tie.Need-returns-3
 unfolding lineTo
-returns-3 c = ap accepted (c .placed .ensures) ∙ sym (at-accepted line (c .before .before .before .args .level) (c .before .before .before .args .position) (c .before .before .if1 .left) (rw (shifted-one (c .before .before .before .args .level) (2 ^ 64) (pow-lt {i = c .before .before .before .args .level} {j = 64} (omega arith))) at (c .before .if2 .left)))
+returns-3 c =
+    let start = c .before .before .before in
+    let a = start .args in
+    ap accepted (c .placed .ensures) ∙ sym (at-accepted line (a .level) (a .position) (c .before .before .if1 .left) (rw (shifted-one (a .level) (2 ^ 64) (pow-lt {i = a .level} {j = 64} (omega arith))) at (c .before .if2 .left)))
 
 pub at-spec : {M : Type 1} → statement M
 at-spec = tie.close (tie.spec returns shl-if2 returns-2 placed-requires returns-3)

@@ -22,13 +22,18 @@ sub-t5 c = omega (arith, side-le 21 (c .before .before .args .self .level) (c .b
 
 add-t6 : tie.Need-add-t6
 unfolding lineTo
-add-t6 c = omega (arith, end-inside 21 (c .before .before .before .args .self .level) (c .before .before .before .args .self .x) (sound-level 21 (c .before .before .before .args .self .level) (c .before .before .before .args .self .x) (c .before .before .before .pre .0)) (sound-grid 21 (c .before .before .before .args .self .level) (c .before .before .before .args .self .x) (c .before .before .before .pre .0)), c .before .before .side .ensures)
+add-t6 c =
+    let start = c .before .before .before in
+    let a = start .args in
+    omega (arith, end-inside 21 (a .self .level) (a .self .x) (sound-level 21 (a .self .level) (a .self .x) (start .pre .0)) (sound-grid 21 (a .self .level) (a .self .x) (start .pre .0)), c .before .before .side .ensures)
 
 returns : tie.Need-returns
 unfolding lineTo
 returns c =
-    line-path _ _ (ap₂ (λ (h k : ℕ). c .before .before .before .args .self .x + (h - k)) (c .before .before .side .ensures) (c .before .side2 .ensures)) refl
-    ∙ sym (last-closed 21 (c .before .before .before .args .self) (c .before .before .before .args .level) (c .before .before .before .pre .1 .0) (c .before .before .before .pre .1 .1))
+    let start = c .before .before .before in
+    let a = start .args in
+    line-path _ _ (ap₂ (λ (h k : ℕ). a .self .x + (h - k)) (c .before .before .side .ensures) (c .before .side2 .ensures)) refl
+    ∙ sym (last-closed 21 (a .self) (a .level) (start .pre .1 .0) (start .pre .1 .1))
 
 pub bottom-spec : {M : Type 1} → statement M
 bottom-spec = tie.close (tie.spec side-requires side-requires-2 sub-t5 add-t6 returns)

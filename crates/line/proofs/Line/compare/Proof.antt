@@ -22,7 +22,9 @@ fault-requires-2 c κs = search needs
 
 returns-2 : tie.Need-returns-2
 unfolding lineTo
-returns-2 c = order-second line (c .before .fault2 .result) (c .before .before .before .before .args .self) (c .before .before .before .before .args .other) (sym (c .before .before .before .fault .ensures) ∙ c .before .before .if1 .left) (c .before .fault2 .ensures) (c .if2 .taken)
+returns-2 c =
+    let start = c .before .before .before .before in
+    order-second line (c .before .fault2 .result) (start .args .self) (start .args .other) (sym (c .before .before .before .fault .ensures) ∙ c .before .before .if1 .left) (c .before .fault2 .ensures) (c .if2 .taken)
 
 cast-order : tie.Need-cast-order
 cast-order c = search needs
@@ -36,9 +38,15 @@ order-requires c κs = search needs
 returns-3 : tie.Need-returns-3
 unfolding lineTo order
 returns-3 c =
+    let at-if2 = c .before .before .before in
+    let at-fault2 = at-if2 .before in
+    let at-if1 = at-fault2 .before in
+    let at-fault = at-if1 .before in
+    let start = at-fault .before in
+    let a = start .args in
     c .order .ensures
-    ∙ ap₂ (λ (p q : ℕ). accepted (compared p q (compared (c .before .before .before .before .before .before .before .args .self .level) (c .before .before .before .before .before .before .before .args .other .level) same))) (sym (first-place 21 (c .before .before .before .before .before .before .before .args .self) (sym (c .before .before .before .before .before .before .fault .ensures) ∙ c .before .before .before .before .before .if1 .left))) (sym (first-place 21 (c .before .before .before .before .before .before .before .args .other) (sym (c .before .before .before .before .fault2 .ensures) ∙ c .before .before .before .if2 .left)))
-    ∙ sym (order-accepted line (c .before .before .before .before .before .before .before .args .self) (c .before .before .before .before .before .before .before .args .other) (sym (c .before .before .before .before .before .before .fault .ensures) ∙ c .before .before .before .before .before .if1 .left) (sym (c .before .before .before .before .fault2 .ensures) ∙ c .before .before .before .if2 .left))
+    ∙ ap₂ (λ (p q : ℕ). accepted (compared p q (compared (a .self .level) (a .other .level) same))) (sym (first-place 21 (a .self) (sym (at-fault .fault .ensures) ∙ at-if1 .if1 .left))) (sym (first-place 21 (a .other) (sym (at-fault2 .fault2 .ensures) ∙ at-if2 .if2 .left)))
+    ∙ sym (order-accepted line (a .self) (a .other) (sym (at-fault .fault .ensures) ∙ at-if1 .if1 .left) (sym (at-fault2 .fault2 .ensures) ∙ at-if2 .if2 .left))
 
 pub compare-spec : {M : Type 1} → statement M
 compare-spec =

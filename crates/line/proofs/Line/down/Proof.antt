@@ -21,22 +21,29 @@ side-requires c κs = search needs
 mul-t6 : tie.Need-mul-t6
 unfolding lineTo
 mul-t6 c =
-    let h : c .side .result ≡ side 21 (suc (c .before .before .args .self .level)) = c .side .ensures ∙ ap (side 21) (add-one (c .before .before .args .self .level)) in
-    let part : c .before .before .args .number * c .side .result ≤ 1 * c .side .result = mul-le-mul-right (c .side .result) (omega (arith, c .before .before .pre .1 .1)) in
-    omega (arith, end-inside 21 (c .before .before .args .self .level) (c .before .before .args .self .x) (sound-level 21 (c .before .before .args .self .level) (c .before .before .args .self .x) (c .before .before .pre .0)) (sound-grid 21 (c .before .before .args .self .level) (c .before .before .args .self .x) (c .before .before .pre .0)), side-suc 21 (c .before .before .args .self .level) (c .before .before .pre .1 .0))
+    let start = c .before .before in
+    let a = start .args in
+    let h : c .side .result ≡ side 21 (suc (a .self .level)) = c .side .ensures ∙ ap (side 21) (add-one (a .self .level)) in
+    let part : a .number * c .side .result ≤ 1 * c .side .result = mul-le-mul-right (c .side .result) (omega (arith, start .pre .1 .1)) in
+    omega (arith, end-inside 21 (a .self .level) (a .self .x) (sound-level 21 (a .self .level) (a .self .x) (start .pre .0)) (sound-grid 21 (a .self .level) (a .self .x) (start .pre .0)), side-suc 21 (a .self .level) (start .pre .1 .0))
 
 add-t7 : tie.Need-add-t7
 unfolding lineTo
 add-t7 c =
-    let h : c .before .side .result ≡ side 21 (suc (c .before .before .before .args .self .level)) = c .before .side .ensures ∙ ap (side 21) (add-one (c .before .before .before .args .self .level)) in
-    let part : c .before .before .before .args .number * c .before .side .result ≤ 1 * c .before .side .result = mul-le-mul-right (c .before .side .result) (omega (arith, c .before .before .before .pre .1 .1)) in
-    omega (arith, end-inside 21 (c .before .before .before .args .self .level) (c .before .before .before .args .self .x) (sound-level 21 (c .before .before .before .args .self .level) (c .before .before .before .args .self .x) (c .before .before .before .pre .0)) (sound-grid 21 (c .before .before .before .args .self .level) (c .before .before .before .args .self .x) (c .before .before .before .pre .0)), side-suc 21 (c .before .before .before .args .self .level) (c .before .before .before .pre .1 .0))
+    let at-side = c .before in
+    let start = at-side .before .before in
+    let a = start .args in
+    let h : at-side .side .result ≡ side 21 (suc (a .self .level)) = at-side .side .ensures ∙ ap (side 21) (add-one (a .self .level)) in
+    let part : a .number * at-side .side .result ≤ 1 * at-side .side .result = mul-le-mul-right (at-side .side .result) (omega (arith, start .pre .1 .1)) in
+    omega (arith, end-inside 21 (a .self .level) (a .self .x) (sound-level 21 (a .self .level) (a .self .x) (start .pre .0)) (sound-grid 21 (a .self .level) (a .self .x) (start .pre .0)), side-suc 21 (a .self .level) (start .pre .1 .0))
 
 returns : tie.Need-returns
 unfolding lineTo
 returns c =
-    let h : c .before .side .result ≡ side 21 (suc (c .before .before .before .args .self .level)) = c .before .side .ensures ∙ ap (side 21) (add-one (c .before .before .before .args .self .level)) in
-    line-path _ _ (ap (λ (k : ℕ). c .before .before .before .args .self .x + c .before .before .before .args .number * k) h) (add-one (c .before .before .before .args .self .level))
+    let start = c .before .before .before in
+    let a = start .args in
+    let h : c .before .side .result ≡ side 21 (suc (a .self .level)) = c .before .side .ensures ∙ ap (side 21) (add-one (a .self .level)) in
+    line-path _ _ (ap (λ (k : ℕ). a .self .x + a .number * k) h) (add-one (a .self .level))
 
 pub down-spec : {M : Type 1} → statement M
 down-spec = tie.close (tie.spec add-level side-requires mul-t6 add-t7 returns)

@@ -10,7 +10,9 @@ returns c = simp (ne-eqb (c .before .before .before .args .self .x) (c .before .
 
 returns-2 : tie.Need-returns-2
 unfolding lineTo
-returns-2 c = simp (eq-eqb (c .before .before .before .before .before .args .self .x) (c .before .before .before .before .before .args .other .x) (c .before .before .if1 .left))
+returns-2 c =
+    let start = c .before .before .before .before .before in
+    simp (eq-eqb (start .args .self .x) (start .args .other .x) (c .before .before .if1 .left))
 
 pub equals-spec : {M : Type 1} → statement M
 equals-spec = tie.close (tie.spec returns returns-2)

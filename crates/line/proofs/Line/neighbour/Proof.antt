@@ -15,7 +15,9 @@ returns c = faulty line (c .before .fault .result) (c .before .before .args .sel
 
 returns-2 : tie.Need-returns-2
 unfolding lineTo
-returns-2 c = sym (neighbour-refused-8 line (c .before .before .before .args .self) (sym (c .before .before .fault .ensures) ∙ c .before .if1 .left) (c .before .before .before .args .face) (c .if2 .taken))
+returns-2 c =
+    let start = c .before .before .before in
+    sym (neighbour-refused-8 line (start .args .self) (sym (c .before .before .fault .ensures) ∙ c .before .if1 .left) (start .args .face) (c .if2 .taken))
 
 across-requires : tie.Need-across-requires
 unfolding lineTo
@@ -23,7 +25,9 @@ across-requires c κs = ((sym (c .before .before .fault .ensures) ∙ c .before 
 
 returns-3 : tie.Need-returns-3
 unfolding lineTo
-returns-3 c = c .across .ensures ∙ sym (neighbour-across line (c .before .before .before .before .args .self) (sym (c .before .before .before .fault .ensures) ∙ c .before .before .if1 .left) (c .before .before .before .before .args .face) (c .before .if2 .left))
+returns-3 c =
+    let start = c .before .before .before .before in
+    c .across .ensures ∙ sym (neighbour-across line (start .args .self) (sym (c .before .before .before .fault .ensures) ∙ c .before .before .if1 .left) (start .args .face) (c .before .if2 .left))
 
 pub neighbour-spec : {M : Type 1} → statement M
 neighbour-spec = tie.close (tie.spec fault-requires returns returns-2 across-requires returns-3)

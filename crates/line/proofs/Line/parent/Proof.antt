@@ -22,7 +22,9 @@ returns-2 c = sym (parent-refused-6 line (c .before .before .before .before .arg
 
 up-requires : tie.Need-up-requires
 unfolding lineTo
-up-requires c κs = let shallow = sound-level 21 (c .before .before .before .before .args .self .level) (c .before .before .before .before .args .self .x) (sym (c .before .before .before .fault .ensures) ∙ c .before .before .if1 .left) in omega arith
+up-requires c κs =
+    let start = c .before .before .before .before in
+    let shallow = sound-level 21 (start .args .self .level) (start .args .self .x) (sym (c .before .before .before .fault .ensures) ∙ c .before .before .if1 .left) in omega arith
 
 returns-3 : tie.Need-returns-3
 unfolding lineTo

@@ -23,7 +23,10 @@ shr-result c = search needs
 
 cast-result-2 : tie.Need-cast-result-2
 unfolding lineTo
-cast-result-2 c = omega (arith, div-le-self (c .before .before .args .self .x) (side 21 (c .before .before .args .self .level)), grid-lt 21 (c .before .before .args .self .level) (c .before .before .args .self .x) (sound-grid 21 (c .before .before .args .self .level) (c .before .before .args .self .x) (c .before .before .pre)))
+cast-result-2 c =
+    let start = c .before .before in
+    let a = start .args in
+    omega (arith, div-le-self (a .self .x) (side 21 (a .self .level)), grid-lt 21 (a .self .level) (a .self .x) (sound-grid 21 (a .self .level) (a .self .x) (start .pre)))
 
 returns : tie.Need-returns
 unfolding lineTo

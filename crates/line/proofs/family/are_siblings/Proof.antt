@@ -51,9 +51,10 @@ returns-2 c =
 up-requires : tie.Need-up-requires Inv-loop μ-loop
 unfolding lineTo
 up-requires c κs =
-    let a = c .before .before .before .before .before .before .args in
+    let start = c .before .before .before .before .before .before in
+    let a = start .args in
     let cs = columns (a .xs .now) (a .levels .now) in
-    let sound : line .fault (element cs 0) ≡ 0 = scan-all (line .fault) (element cs) 0 (length (cs .x)) 0 (c .before .before .before .before .before .before .pre .sound) (omega arith) in
+    let sound : line .fault (element cs 0) ≡ 0 = scan-all (line .fault) (element cs) 0 (length (cs .x)) 0 (start .pre .sound) (omega arith) in
     let shallow : (element cs 0) .level ≤ 21 = lawful 21 .shallow (element cs 0) sound in
     let levels = ap (λ (e : Line). e .level) (c .before .before .row .ensures) in
     (omega (arith, c .if2 .left), omega arith)
@@ -79,14 +80,17 @@ cast-down c = omega arith
 down-requires : tie.Need-down-requires Inv-loop μ-loop
 unfolding lineTo
 down-requires c κs =
-    let a = c .before .before .before .before .before .before .before .before .before .args in
+    let at-up = c .before .before in
+    let at-row = at-up .before .before .before in
+    let start = at-row .before .before .before .before in
+    let a = start .args in
     let cs = columns (a .xs .now) (a .levels .now) in
     let first = element cs 0 in
-    let deep : first .level ≡ 0 → ⊥ = λ flat. c .before .before .before .if2 .left (ap (λ (e : Line). e .level) (c .before .before .before .before .before .row .ensures) ∙ flat) in
-    let sound : line .fault first ≡ 0 = scan-all (line .fault) (element cs) 0 (length (cs .x)) 0 (c .before .before .before .before .before .before .before .before .before .pre .sound) (omega arith) in
-    let above : c .before .before .up .result ≡ line .parent first = c .before .before .up .ensures ∙ ap (line .parent) (c .before .before .before .before .before .row .ensures) in
-    let under : Sound line (c .before .before .up .result) = rw above (lawful 21 .parent-sound first sound (omega (arith, deep))) in
-    let higher : (c .before .before .up .result) .level < 21 =
+    let deep : first .level ≡ 0 → ⊥ = λ flat. c .before .before .before .if2 .left (ap (λ (e : Line). e .level) (at-row .row .ensures) ∙ flat) in
+    let sound : line .fault first ≡ 0 = scan-all (line .fault) (element cs) 0 (length (cs .x)) 0 (start .pre .sound) (omega arith) in
+    let above : at-up .up .result ≡ line .parent first = at-up .up .ensures ∙ ap (line .parent) (at-row .row .ensures) in
+    let under : Sound line (at-up .up .result) = rw above (lawful 21 .parent-sound first sound (omega (arith, deep))) in
+    let higher : (at-up .up .result) .level < 21 =
     rw above (omega (arith, lawful 21 .parent-level first (omega (arith, deep)), lawful 21 .shallow first sound)) in
     (under, (higher, c .loop-test .taken))
 
@@ -99,13 +103,16 @@ equals-requires c κs = tt
 returns-3 : tie.Need-returns-3 Inv-loop μ-loop
 unfolding lineTo
 returns-3 c =
-    let a = c .before .before .before .before .before .before .before .before .before .before .before .before .before .args in
+    let at-loop = c .before .before .before .before .before in
+    let at-up = at-loop .before in
+    let start = at-up .before .before .before .before .before .before .before in
+    let a = start .args in
     let cs = columns (a .xs .now) (a .levels .now) in
-    let i = c .before .before .before .before .before .loop .i in
-    let parent = c .before .before .before .before .before .before .up .result in
+    let i = at-loop .loop .i in
+    let parent = at-up .up .result in
     let alike : line .same (line .child parent i) (element cs i) ≡ false =
     sym (c .before .equals .ensures ∙ ap₂ (line .same) (c .before .before .before .down .ensures) (c .before .before .row2 .ensures)) ∙ not-true (c .before .equals .result) (c .if3 .taken) in
-    sym (c .before .before .before .before .before .loop .inv .1 ∙ sibling-differs line (lawful 21) (element cs) parent 2 i (c .before .before .before .before .loop-test .taken) alike)
+    sym (at-loop .loop .inv .1 ∙ sibling-differs line (lawful 21) (element cs) parent 2 i (c .before .before .before .before .loop-test .taken) alike)
 
 add-i : tie.Need-add-i Inv-loop μ-loop
 add-i c = omega arith
@@ -116,13 +123,16 @@ loop-less c = omega arith
 loop-again : tie.Need-loop-again Inv-loop μ-loop
 unfolding lineTo
 loop-again c =
-    let a = c .before .before .before .before .before .before .before .before .before .before .before .before .before .args in
+    let at-loop = c .before .before .before .before .before in
+    let at-up = at-loop .before in
+    let start = at-up .before .before .before .before .before .before .before in
+    let a = start .args in
     let cs = columns (a .xs .now) (a .levels .now) in
-    let i = c .before .before .before .before .before .loop .i in
-    let parent = c .before .before .before .before .before .before .up .result in
+    let i = at-loop .loop .i in
+    let parent = at-up .up .result in
     let alike : line .same (line .child parent i) (element cs i) ≡ true =
     sym (c .before .equals .ensures ∙ ap₂ (line .same) (c .before .before .before .down .ensures) (c .before .before .row2 .ensures)) ∙ not-false (c .before .equals .result) (c .if3 .left) in
-    (omega arith, c .before .before .before .before .before .loop .inv .1 ∙ sibling-step line (lawful 21) (element cs) parent 2 i (c .before .before .before .before .loop-test .taken) alike)
+    (omega arith, at-loop .loop .inv .1 ∙ sibling-step line (lawful 21) (element cs) parent 2 i (c .before .before .before .before .loop-test .taken) alike)
 
 returns-4 : tie.Need-returns-4 Inv-loop μ-loop
 unfolding lineTo

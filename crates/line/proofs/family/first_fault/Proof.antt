@@ -54,11 +54,13 @@ loop-less c = omega arith
 
 loop-again : tie.Need-loop-again Inv-loop μ-loop
 loop-again c =
-    let a = c .before .before .before .before .before .before .before .args in
+    let at-loop = c .before .before .before .before in
+    let start = at-loop .before .before .before in
+    let a = start .args in
     let cs = columns (a .xs .now) (a .levels .now) in
-    let i = c .before .before .before .before .loop .i in
+    let i = at-loop .loop .i in
     let none : line .fault (element cs i) ≡ 0 = sym (c .before .fault .ensures ∙ ap (line .fault) (c .before .before .row .ensures)) ∙ c .if1 .left in
-    (omega arith, c .before .before .before .before .loop .inv .1 ∙ scan-step (line .fault) (element cs) (length (cs .x)) i passed (c .before .before .before .loop-test .taken) none)
+    (omega arith, at-loop .loop .inv .1 ∙ scan-step (line .fault) (element cs) (length (cs .x)) i passed (c .before .before .before .loop-test .taken) none)
 
 returns-2 : tie.Need-returns-2 Inv-loop μ-loop
 returns-2 c =

@@ -21,11 +21,15 @@ moved-requires c κs = search needs
 returns : tie.Need-returns
 unfolding prismTo
 returns c =
-    let k = grids 21 (c .before .before .before .before .args .self) (c .before .before .before .before .pre .0) .0 in
-    let row : c .before .before .prism-face-row .result ≡ prismFaceRow (c .before .before .before .before .args .self .kind) (c .before .before .before .before .args .face) = c .before .before .prism-face-row .ensures ∙ ap₂ prismFaceRow (mod-eq-of-lt (k .typed)) (mod-eq-of-lt (c .before .before .before .before .pre .1)) in
-    gone-x (c .before .before .before .before .args .self) (c .before .before .prism-face-row .result) (c .before .before .before .side .result) (c .before .moved .result) _ _ (c .before .before .before .side .ensures) (c .before .moved .ensures) refl refl (c .if1 .taken)
-    ∙ ap (acrossBy (c .before .before .before .before .args .self)) row
-    ∙ sym (neighbour-by (c .before .before .before .before .args .self) (c .before .before .before .before .pre .0) (c .before .before .before .before .args .face) (c .before .before .before .before .pre .1))
+    let at-prism-face-row = c .before .before in
+    let at-side = at-prism-face-row .before in
+    let start = at-side .before in
+    let a = start .args in
+    let k = grids 21 (a .self) (start .pre .0) .0 in
+    let row : at-prism-face-row .prism-face-row .result ≡ prismFaceRow (a .self .kind) (a .face) = at-prism-face-row .prism-face-row .ensures ∙ ap₂ prismFaceRow (mod-eq-of-lt (k .typed)) (mod-eq-of-lt (start .pre .1)) in
+    gone-x (a .self) (at-prism-face-row .prism-face-row .result) (at-side .side .result) (c .before .moved .result) _ _ (at-side .side .ensures) (c .before .moved .ensures) refl refl (c .if1 .taken)
+    ∙ ap (acrossBy (a .self)) row
+    ∙ sym (neighbour-by (a .self) (start .pre .0) (a .face) (start .pre .1))
 
 moved-requires-2 : tie.Need-moved-requires-2
 moved-requires-2 c κs = search needs
@@ -33,11 +37,16 @@ moved-requires-2 c κs = search needs
 returns-2 : tie.Need-returns-2
 unfolding prismTo
 returns-2 c =
-    let k = grids 21 (c .before .before .before .before .before .before .args .self) (c .before .before .before .before .before .before .pre .0) .0 in
-    let row : c .before .before .before .before .prism-face-row .result ≡ prismFaceRow (c .before .before .before .before .before .before .args .self .kind) (c .before .before .before .before .before .before .args .face) = c .before .before .before .before .prism-face-row .ensures ∙ ap₂ prismFaceRow (mod-eq-of-lt (k .typed)) (mod-eq-of-lt (c .before .before .before .before .before .before .pre .1)) in
-    gone-y (c .before .before .before .before .before .before .args .self) (c .before .before .before .before .prism-face-row .result) (c .before .before .before .before .before .side .result) (c .before .before .before .moved .result) (c .before .moved2 .result) _ (c .before .before .before .before .before .side .ensures) (c .before .before .before .moved .ensures) (c .before .moved2 .ensures) refl (c .before .before .if1 .left) (c .if2 .taken)
-    ∙ ap (acrossBy (c .before .before .before .before .before .before .args .self)) row
-    ∙ sym (neighbour-by (c .before .before .before .before .before .before .args .self) (c .before .before .before .before .before .before .pre .0) (c .before .before .before .before .before .before .args .face) (c .before .before .before .before .before .before .pre .1))
+    let at-moved = c .before .before .before in
+    let at-prism-face-row = at-moved .before in
+    let at-side = at-prism-face-row .before in
+    let start = at-side .before in
+    let a = start .args in
+    let k = grids 21 (a .self) (start .pre .0) .0 in
+    let row : at-prism-face-row .prism-face-row .result ≡ prismFaceRow (a .self .kind) (a .face) = at-prism-face-row .prism-face-row .ensures ∙ ap₂ prismFaceRow (mod-eq-of-lt (k .typed)) (mod-eq-of-lt (start .pre .1)) in
+    gone-y (a .self) (at-prism-face-row .prism-face-row .result) (at-side .side .result) (at-moved .moved .result) (c .before .moved2 .result) _ (at-side .side .ensures) (at-moved .moved .ensures) (c .before .moved2 .ensures) refl (c .before .before .if1 .left) (c .if2 .taken)
+    ∙ ap (acrossBy (a .self)) row
+    ∙ sym (neighbour-by (a .self) (start .pre .0) (a .face) (start .pre .1))
 
 moved-requires-3 : tie.Need-moved-requires-3
 moved-requires-3 c κs = search needs
@@ -45,11 +54,17 @@ moved-requires-3 c κs = search needs
 returns-3 : tie.Need-returns-3
 unfolding prismTo
 returns-3 c =
-    let k = grids 21 (c .before .before .before .before .before .before .before .before .args .self) (c .before .before .before .before .before .before .before .before .pre .0) .0 in
-    let row : c .before .before .before .before .before .before .prism-face-row .result ≡ prismFaceRow (c .before .before .before .before .before .before .before .before .args .self .kind) (c .before .before .before .before .before .before .before .before .args .face) = c .before .before .before .before .before .before .prism-face-row .ensures ∙ ap₂ prismFaceRow (mod-eq-of-lt (k .typed)) (mod-eq-of-lt (c .before .before .before .before .before .before .before .before .pre .1)) in
-    gone-z (c .before .before .before .before .before .before .before .before .args .self) (c .before .before .before .before .before .before .prism-face-row .result) (c .before .before .before .before .before .before .before .side .result) (c .before .before .before .before .before .moved .result) (c .before .before .before .moved2 .result) (c .before .moved3 .result) (c .before .before .before .before .before .before .before .side .ensures) (c .before .before .before .before .before .moved .ensures) (c .before .before .before .moved2 .ensures) (c .before .moved3 .ensures) (c .before .before .before .before .if1 .left) (c .before .before .if2 .left) (c .if3 .taken)
-    ∙ ap (acrossBy (c .before .before .before .before .before .before .before .before .args .self)) row
-    ∙ sym (neighbour-by (c .before .before .before .before .before .before .before .before .args .self) (c .before .before .before .before .before .before .before .before .pre .0) (c .before .before .before .before .before .before .before .before .args .face) (c .before .before .before .before .before .before .before .before .pre .1))
+    let at-moved2 = c .before .before .before in
+    let at-moved = at-moved2 .before .before in
+    let at-prism-face-row = at-moved .before in
+    let at-side = at-prism-face-row .before in
+    let start = at-side .before in
+    let a = start .args in
+    let k = grids 21 (a .self) (start .pre .0) .0 in
+    let row : at-prism-face-row .prism-face-row .result ≡ prismFaceRow (a .self .kind) (a .face) = at-prism-face-row .prism-face-row .ensures ∙ ap₂ prismFaceRow (mod-eq-of-lt (k .typed)) (mod-eq-of-lt (start .pre .1)) in
+    gone-z (a .self) (at-prism-face-row .prism-face-row .result) (at-side .side .result) (at-moved .moved .result) (at-moved2 .moved2 .result) (c .before .moved3 .result) (at-side .side .ensures) (at-moved .moved .ensures) (at-moved2 .moved2 .ensures) (c .before .moved3 .ensures) (c .before .before .before .before .if1 .left) (c .before .before .if2 .left) (c .if3 .taken)
+    ∙ ap (acrossBy (a .self)) row
+    ∙ sym (neighbour-by (a .self) (start .pre .0) (a .face) (start .pre .1))
 
 outside-requires : tie.Need-outside-requires
 outside-requires c κs = search needs
@@ -57,20 +72,36 @@ outside-requires c κs = search needs
 returns-4 : tie.Need-returns-4
 unfolding prismTo
 returns-4 c =
-    let k = grids 21 (c .before .before .before .before .before .before .before .before .before .before .args .self) (c .before .before .before .before .before .before .before .before .before .before .pre .0) .0 in
-    let row : c .before .before .before .before .before .before .before .before .prism-face-row .result ≡ prismFaceRow (c .before .before .before .before .before .before .before .before .before .before .args .self .kind) (c .before .before .before .before .before .before .before .before .before .before .args .face) = c .before .before .before .before .before .before .before .before .prism-face-row .ensures ∙ ap₂ prismFaceRow (mod-eq-of-lt (k .typed)) (mod-eq-of-lt (c .before .before .before .before .before .before .before .before .before .before .pre .1)) in
-    beyond-root (c .before .before .before .before .before .before .before .before .before .before .args .self) (c .before .before .before .before .before .before .before .before .prism-face-row .result) (c .before .before .before .before .before .before .before .before .before .side .result) (c .before .before .before .before .before .before .before .moved .result) (c .before .before .before .before .before .moved2 .result) (c .before .before .before .moved3 .result) (c .before .before .before .before .before .before .before .before .before .side .ensures) (c .before .before .before .before .before .before .before .moved .ensures) (c .before .before .before .before .before .moved2 .ensures) (c .before .before .before .moved3 .ensures) (c .before .before .before .before .before .before .if1 .left) (c .before .before .before .before .if2 .left) (c .before .before .if3 .left) (sym (c .before .outside .ensures) ∙ c .if4 .taken)
-    ∙ ap (acrossBy (c .before .before .before .before .before .before .before .before .before .before .args .self)) row
-    ∙ sym (neighbour-by (c .before .before .before .before .before .before .before .before .before .before .args .self) (c .before .before .before .before .before .before .before .before .before .before .pre .0) (c .before .before .before .before .before .before .before .before .before .before .args .face) (c .before .before .before .before .before .before .before .before .before .before .pre .1))
+    let at-moved3 = c .before .before .before in
+    let at-moved2 = at-moved3 .before .before in
+    let at-if1 = at-moved2 .before in
+    let at-moved = at-if1 .before in
+    let at-prism-face-row = at-moved .before in
+    let at-side = at-prism-face-row .before in
+    let start = at-side .before in
+    let a = start .args in
+    let k = grids 21 (a .self) (start .pre .0) .0 in
+    let row : at-prism-face-row .prism-face-row .result ≡ prismFaceRow (a .self .kind) (a .face) = at-prism-face-row .prism-face-row .ensures ∙ ap₂ prismFaceRow (mod-eq-of-lt (k .typed)) (mod-eq-of-lt (start .pre .1)) in
+    beyond-root (a .self) (at-prism-face-row .prism-face-row .result) (at-side .side .result) (at-moved .moved .result) (at-moved2 .moved2 .result) (at-moved3 .moved3 .result) (at-side .side .ensures) (at-moved .moved .ensures) (at-moved2 .moved2 .ensures) (at-moved3 .moved3 .ensures) (at-if1 .if1 .left) (c .before .before .before .before .if2 .left) (c .before .before .if3 .left) (sym (c .before .outside .ensures) ∙ c .if4 .taken)
+    ∙ ap (acrossBy (a .self)) row
+    ∙ sym (neighbour-by (a .self) (start .pre .0) (a .face) (start .pre .1))
 
 returns-5 : tie.Need-returns-5
 unfolding prismTo
 returns-5 c =
-    let k = grids 21 (c .before .before .before .before .before .before .before .before .before .before .args .self) (c .before .before .before .before .before .before .before .before .before .before .pre .0) .0 in
-    let row : c .before .before .before .before .before .before .before .before .prism-face-row .result ≡ prismFaceRow (c .before .before .before .before .before .before .before .before .before .before .args .self .kind) (c .before .before .before .before .before .before .before .before .before .before .args .face) = c .before .before .before .before .before .before .before .before .prism-face-row .ensures ∙ ap₂ prismFaceRow (mod-eq-of-lt (k .typed)) (mod-eq-of-lt (c .before .before .before .before .before .before .before .before .before .before .pre .1)) in
-    within-root (c .before .before .before .before .before .before .before .before .before .before .args .self) (c .before .before .before .before .before .before .before .before .prism-face-row .result) (c .before .before .before .before .before .before .before .before .before .side .result) (c .before .before .before .before .before .before .before .moved .result) (c .before .before .before .before .before .moved2 .result) (c .before .before .before .moved3 .result) (c .before .before .before .before .before .before .before .before .before .side .ensures) (c .before .before .before .before .before .before .before .moved .ensures) (c .before .before .before .before .before .moved2 .ensures) (c .before .before .before .moved3 .ensures) (c .before .before .before .before .before .before .if1 .left) (c .before .before .before .before .if2 .left) (c .before .before .if3 .left) (sym (c .before .outside .ensures) ∙ c .if4 .left)
-    ∙ ap (acrossBy (c .before .before .before .before .before .before .before .before .before .before .args .self)) row
-    ∙ sym (neighbour-by (c .before .before .before .before .before .before .before .before .before .before .args .self) (c .before .before .before .before .before .before .before .before .before .before .pre .0) (c .before .before .before .before .before .before .before .before .before .before .args .face) (c .before .before .before .before .before .before .before .before .before .before .pre .1))
+    let at-moved3 = c .before .before .before in
+    let at-moved2 = at-moved3 .before .before in
+    let at-if1 = at-moved2 .before in
+    let at-moved = at-if1 .before in
+    let at-prism-face-row = at-moved .before in
+    let at-side = at-prism-face-row .before in
+    let start = at-side .before in
+    let a = start .args in
+    let k = grids 21 (a .self) (start .pre .0) .0 in
+    let row : at-prism-face-row .prism-face-row .result ≡ prismFaceRow (a .self .kind) (a .face) = at-prism-face-row .prism-face-row .ensures ∙ ap₂ prismFaceRow (mod-eq-of-lt (k .typed)) (mod-eq-of-lt (start .pre .1)) in
+    within-root (a .self) (at-prism-face-row .prism-face-row .result) (at-side .side .result) (at-moved .moved .result) (at-moved2 .moved2 .result) (at-moved3 .moved3 .result) (at-side .side .ensures) (at-moved .moved .ensures) (at-moved2 .moved2 .ensures) (at-moved3 .moved3 .ensures) (at-if1 .if1 .left) (c .before .before .before .before .if2 .left) (c .before .before .if3 .left) (sym (c .before .outside .ensures) ∙ c .if4 .left)
+    ∙ ap (acrossBy (a .self)) row
+    ∙ sym (neighbour-by (a .self) (start .pre .0) (a .face) (start .pre .1))
 
 pub across-spec : {M : Type 1} → statement M
 across-spec =

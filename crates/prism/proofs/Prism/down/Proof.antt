@@ -30,23 +30,25 @@ cast-t6 c = search needs
 mul-t7 : tie.Need-mul-t7
 unfolding prismTo
 mul-t7 c =
-    let a = c .before .before .before .before .args in
-    let on = grids 21 (a .self) (c .before .before .before .before .pre .0) in
+    let start = c .before .before .before .before in
+    let a = start .args in
+    let on = grids 21 (a .self) (start .pre .0) in
     let s = c .before .child-row in
     let bits = row-small (a .self .kind) (a .number) (s .result) (s .ensures) in
     let h = c .before .before .side in
-    let room = half-inside 21 (a .self .level) (a .self .x) (s .result .x) (h .result) (h .ensures) (c .before .before .before .before .pre .1 .0) (on .0 .grid-x) (bits .0) in
+    let room = half-inside 21 (a .self .level) (a .self .x) (s .result .x) (h .result) (h .ensures) (start .pre .1 .0) (on .0 .grid-x) (bits .0) in
     omega arith
 
 add-t8 : tie.Need-add-t8
 unfolding prismTo
 add-t8 c =
-    let a = c .before .before .before .before .before .args in
-    let on = grids 21 (a .self) (c .before .before .before .before .before .pre .0) in
+    let start = c .before .before .before .before .before in
+    let a = start .args in
+    let on = grids 21 (a .self) (start .pre .0) in
     let s = c .before .before .child-row in
     let bits = row-small (a .self .kind) (a .number) (s .result) (s .ensures) in
     let h = c .before .before .before .side in
-    let room = half-inside 21 (a .self .level) (a .self .x) (s .result .x) (h .result) (h .ensures) (c .before .before .before .before .before .pre .1 .0) (on .0 .grid-x) (bits .0) in
+    let room = half-inside 21 (a .self .level) (a .self .x) (s .result .x) (h .result) (h .ensures) (start .pre .1 .0) (on .0 .grid-x) (bits .0) in
     omega arith
 
 cast-t9 : tie.Need-cast-t9
@@ -55,23 +57,25 @@ cast-t9 c = search needs
 mul-t10 : tie.Need-mul-t10
 unfolding prismTo
 mul-t10 c =
-    let a = c .before .before .before .before .before .before .args in
-    let on = grids 21 (a .self) (c .before .before .before .before .before .before .pre .0) in
+    let start = c .before .before .before .before .before .before in
+    let a = start .args in
+    let on = grids 21 (a .self) (start .pre .0) in
     let s = c .before .before .before .child-row in
     let bits = row-small (a .self .kind) (a .number) (s .result) (s .ensures) in
     let h = c .before .before .before .before .side in
-    let room = half-inside 21 (a .self .level) (a .self .y) (s .result .y) (h .result) (h .ensures) (c .before .before .before .before .before .before .pre .1 .0) (on .0 .grid-y) (bits .1 .0) in
+    let room = half-inside 21 (a .self .level) (a .self .y) (s .result .y) (h .result) (h .ensures) (start .pre .1 .0) (on .0 .grid-y) (bits .1 .0) in
     omega arith
 
 add-t11 : tie.Need-add-t11
 unfolding prismTo
 add-t11 c =
-    let a = c .before .before .before .before .before .before .before .args in
-    let on = grids 21 (a .self) (c .before .before .before .before .before .before .before .pre .0) in
+    let start = c .before .before .before .before .before .before .before in
+    let a = start .args in
+    let on = grids 21 (a .self) (start .pre .0) in
     let s = c .before .before .before .before .child-row in
     let bits = row-small (a .self .kind) (a .number) (s .result) (s .ensures) in
     let h = c .before .before .before .before .before .side in
-    let room = half-inside 21 (a .self .level) (a .self .y) (s .result .y) (h .result) (h .ensures) (c .before .before .before .before .before .before .before .pre .1 .0) (on .0 .grid-y) (bits .1 .0) in
+    let room = half-inside 21 (a .self .level) (a .self .y) (s .result .y) (h .result) (h .ensures) (start .pre .1 .0) (on .0 .grid-y) (bits .1 .0) in
     omega arith
 
 cast-t13 : tie.Need-cast-t13
@@ -80,19 +84,22 @@ cast-t13 c = search needs
 mul-t14 : tie.Need-mul-t14
 unfolding prismTo
 mul-t14 c =
-    let a = c .before .before .before .before .before .before .before .args in
-    let on = grids 21 (a .self) (c .before .before .before .before .before .before .before .pre .0) in
+    let start = c .before .before .before .before .before .before .before in
+    let a = start .args in
+    let on = grids 21 (a .self) (start .pre .0) in
     let h = c .before .before .before .before .before .side in
-    let room = half-inside 21 (a .self .level) (a .self .z) (a .number / 4) (h .result) (h .ensures) (c .before .before .before .before .before .before .before .pre .1 .0) (on .1) (omega (arith, c .before .before .before .before .before .before .before .pre .1 .1)) in
+    let room = half-inside 21 (a .self .level) (a .self .z) (a .number / 4) (h .result) (h .ensures) (start .pre .1 .0) (on .1) (omega (arith, start .pre .1 .1)) in
     omega arith
 
 add-t15 : tie.Need-add-t15
 unfolding prismTo
 add-t15 c =
-    let a = c .before .before .before .before .before .before .before .before .args in
-    let on = grids 21 (a .self) (c .before .before .before .before .before .before .before .before .pre .0) in
-    let h = c .before .before .before .before .before .before .side in
-    let room = half-inside 21 (a .self .level) (a .self .z) (a .number / 4) (h .result) (h .ensures) (c .before .before .before .before .before .before .before .before .pre .1 .0) (on .1) (omega (arith, c .before .before .before .before .before .before .before .before .pre .1 .1)) in
+    let at-side = c .before .before .before .before .before .before in
+    let start = at-side .before .before in
+    let a = start .args in
+    let on = grids 21 (a .self) (start .pre .0) in
+    let h = at-side .side in
+    let room = half-inside 21 (a .self .level) (a .self .z) (a .number / 4) (h .result) (h .ensures) (start .pre .1 .0) (on .1) (omega (arith, start .pre .1 .1)) in
     omega arith
 
 returns : tie.Need-returns

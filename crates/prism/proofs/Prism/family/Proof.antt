@@ -18,19 +18,22 @@ returns c =
 
 returns-2 : tie.Need-returns-2
 returns-2 c =
-    let a = c .before .before .before .before .before .before .before .args in
+    let start = c .before .before .before .before .before .before .before in
+    let a = start .args in
     let cs = columns (a .xs .now) (a .ys .now) (a .zs .now) (a .levels .now) (a .kinds .now) in
     sym (family-refused-11 prism (equalColumns cs) (elements cs) (simp (eq-eqb (length (cs .x)) (length (cs .y)) (c .before .if1 .left), ne-eqb (length (cs .x)) (length (cs .z)) (c .if2 .taken))))
 
 returns-3 : tie.Need-returns-3
 returns-3 c =
-    let a = c .before .before .before .before .before .before .before .before .args in
+    let start = c .before .before .before .before .before .before .before .before in
+    let a = start .args in
     let cs = columns (a .xs .now) (a .ys .now) (a .zs .now) (a .levels .now) (a .kinds .now) in
     sym (family-refused-11 prism (equalColumns cs) (elements cs) (simp (eq-eqb (length (cs .x)) (length (cs .y)) (c .before .before .if1 .left), eq-eqb (length (cs .x)) (length (cs .z)) (c .before .if2 .left), ne-eqb (length (cs .x)) (length (cs .level)) (c .if3 .taken))))
 
 returns-4 : tie.Need-returns-4
 returns-4 c =
-    let a = c .before .before .before .before .before .before .before .before .before .args in
+    let start = c .before .before .before .before .before .before .before .before .before in
+    let a = start .args in
     let cs = columns (a .xs .now) (a .ys .now) (a .zs .now) (a .levels .now) (a .kinds .now) in
     sym (family-refused-11 prism (equalColumns cs) (elements cs) (simp (eq-eqb (length (cs .x)) (length (cs .y)) (c .before .before .before .if1 .left), eq-eqb (length (cs .x)) (length (cs .z)) (c .before .before .if2 .left), eq-eqb (length (cs .x)) (length (cs .level)) (c .before .if3 .left), ne-eqb (length (cs .x)) (length (cs .kind)) (c .if4 .taken))))
 
@@ -39,28 +42,34 @@ first-fault-requires c κs = record { with-y = c .before .before .before .if1 .l
 
 returns-5 : tie.Need-returns-5
 returns-5 c =
-    let a = c .before .before .before .before .before .before .before .before .before .before .before .before .args in
+    let at-if1 = c .before .before .before .before .before .before in
+    let start = at-if1 .before .before .before .before .before .before in
+    let a = start .args in
     let cs = columns (a .xs .now) (a .ys .now) (a .zs .now) (a .levels .now) (a .kinds .now) in
     let found = c .before .before .first-fault in
     sym (family-faulty prism (equalColumns cs) (elements cs) (found .result .number) (found .result .place)
-    (simp (eq-eqb (length (cs .x)) (length (cs .y)) (c .before .before .before .before .before .before .if1 .left), eq-eqb (length (cs .x)) (length (cs .z)) (c .before .before .before .before .before .if2 .left), eq-eqb (length (cs .x)) (length (cs .level)) (c .before .before .before .before .if3 .left), eq-eqb (length (cs .x)) (length (cs .kind)) (c .before .before .before .if4 .left))) (c .if5 .taken) (found .ensures))
+    (simp (eq-eqb (length (cs .x)) (length (cs .y)) (at-if1 .if1 .left), eq-eqb (length (cs .x)) (length (cs .z)) (c .before .before .before .before .before .if2 .left), eq-eqb (length (cs .x)) (length (cs .level)) (c .before .before .before .before .if3 .left), eq-eqb (length (cs .x)) (length (cs .kind)) (c .before .before .before .if4 .left))) (c .if5 .taken) (found .ensures))
 
 are-siblings-requires : tie.Need-are-siblings-requires
 are-siblings-requires c κs =
+    let at-if1 = c .before .before .before .before .before .before in
     let found = c .before .before .first-fault in
     record {
-      equal = record { with-y = c .before .before .before .before .before .before .if1 .left; with-z = c .before .before .before .before .before .if2 .left; with-level = c .before .before .before .before .if3 .left; with-kind = c .before .before .before .if4 .left };
+      equal = record { with-y = at-if1 .if1 .left; with-z = c .before .before .before .before .before .if2 .left; with-level = c .before .before .before .before .if3 .left; with-kind = c .before .before .before .if4 .left };
       sound = sym (found .ensures) ∙ fault-none (found .result .number) (found .result .place) passed (c .if5 .left);
     }
 
 returns-6 : tie.Need-returns-6
 returns-6 c =
-    let a = c .before .before .before .before .before .before .before .before .before .before .before .before .before .args in
+    let at-if2 = c .before .before .before .before .before .before in
+    let at-if1 = at-if2 .before in
+    let start = at-if1 .before .before .before .before .before .before in
+    let a = start .args in
     let cs = columns (a .xs .now) (a .ys .now) (a .zs .now) (a .levels .now) (a .kinds .now) in
     let found = c .before .before .before .first-fault in
     ap accepted (c .are-siblings .ensures)
     ∙ sym (family-accepted prism (equalColumns cs) (elements cs)
-    (simp (eq-eqb (length (cs .x)) (length (cs .y)) (c .before .before .before .before .before .before .before .if1 .left), eq-eqb (length (cs .x)) (length (cs .z)) (c .before .before .before .before .before .before .if2 .left), eq-eqb (length (cs .x)) (length (cs .level)) (c .before .before .before .before .before .if3 .left), eq-eqb (length (cs .x)) (length (cs .kind)) (c .before .before .before .before .if4 .left)))
+    (simp (eq-eqb (length (cs .x)) (length (cs .y)) (at-if1 .if1 .left), eq-eqb (length (cs .x)) (length (cs .z)) (at-if2 .if2 .left), eq-eqb (length (cs .x)) (length (cs .level)) (c .before .before .before .before .before .if3 .left), eq-eqb (length (cs .x)) (length (cs .kind)) (c .before .before .before .before .if4 .left)))
     (sym (found .ensures) ∙ fault-none (found .result .number) (found .result .place) passed (c .before .if5 .left)))
 
 pub family-spec : {M : Type 1} → statement M

@@ -19,15 +19,24 @@ returns c = faulty prism (c .before .fault .result) (c .before .before .args .se
 
 returns-2 : tie.Need-returns-2
 unfolding prismTo
-returns-2 c = sym (descendant-refused-1 prism (c .before .before .before .args .self) (sym (c .before .before .fault .ensures) ∙ c .before .if1 .left) (first prism) (c .before .before .before .args .level) (c .if2 .taken))
+returns-2 c =
+    let start = c .before .before .before in
+    sym (descendant-refused-1 prism (start .args .self) (sym (c .before .before .fault .ensures) ∙ c .before .if1 .left) (first prism) (start .args .level) (c .if2 .taken))
 
 returns-3 : tie.Need-returns-3
 unfolding prismTo
-returns-3 c = sym (descendant-refused-6 prism (c .before .before .before .before .before .args .self) (sym (c .before .before .before .before .fault .ensures) ∙ c .before .before .before .if1 .left) (first prism) (c .before .before .before .before .before .args .level) (c .before .before .if2 .left) (c .if3 .taken))
+returns-3 c =
+    let start = c .before .before .before .before .before in
+    sym (descendant-refused-6 prism (start .args .self) (sym (c .before .before .before .before .fault .ensures) ∙ c .before .before .before .if1 .left) (first prism) (start .args .level) (c .before .before .if2 .left) (c .if3 .taken))
 
 returns-4 : tie.Need-returns-4
 unfolding prismTo
-returns-4 c = ap accepted (sym (first-closed 21 (c .before .before .before .before .before .args .self) (c .before .before .before .before .before .args .level) (grids 21 (c .before .before .before .before .before .args .self) (sym (c .before .before .before .before .fault .ensures) ∙ c .before .before .before .if1 .left) .0 .typed) (c .if3 .left))) ∙ sym (descendant-accepted prism (c .before .before .before .before .before .args .self) (sym (c .before .before .before .before .fault .ensures) ∙ c .before .before .before .if1 .left) (first prism) (c .before .before .before .before .before .args .level) (c .before .before .if2 .left) (c .if3 .left))
+returns-4 c =
+    let at-if1 = c .before .before .before in
+    let at-fault = at-if1 .before in
+    let start = at-fault .before in
+    let a = start .args in
+    ap accepted (sym (first-closed 21 (a .self) (a .level) (grids 21 (a .self) (sym (at-fault .fault .ensures) ∙ at-if1 .if1 .left) .0 .typed) (c .if3 .left))) ∙ sym (descendant-accepted prism (a .self) (sym (at-fault .fault .ensures) ∙ at-if1 .if1 .left) (first prism) (a .level) (c .before .before .if2 .left) (c .if3 .left))
 
 pub first-descendant-spec : {M : Type 1} → statement M
 first-descendant-spec = tie.close (tie.spec fault-requires returns returns-2 returns-3 returns-4)

@@ -17,11 +17,15 @@ returns c = faulty prism (c .before .fault .result) (c .before .before .args .se
 
 returns-2 : tie.Need-returns-2
 unfolding prismTo
-returns-2 c = sym (descendant-refused-1 prism (c .before .before .before .args .self) (sym (c .before .before .fault .ensures) ∙ c .before .if1 .left) (last prism) (c .before .before .before .args .level) (c .if2 .taken))
+returns-2 c =
+    let start = c .before .before .before in
+    sym (descendant-refused-1 prism (start .args .self) (sym (c .before .before .fault .ensures) ∙ c .before .if1 .left) (last prism) (start .args .level) (c .if2 .taken))
 
 returns-3 : tie.Need-returns-3
 unfolding prismTo
-returns-3 c = sym (descendant-refused-6 prism (c .before .before .before .before .before .args .self) (sym (c .before .before .before .before .fault .ensures) ∙ c .before .before .before .if1 .left) (last prism) (c .before .before .before .before .before .args .level) (c .before .before .if2 .left) (c .if3 .taken))
+returns-3 c =
+    let start = c .before .before .before .before .before in
+    sym (descendant-refused-6 prism (start .args .self) (sym (c .before .before .before .before .fault .ensures) ∙ c .before .before .before .if1 .left) (last prism) (start .args .level) (c .before .before .if2 .left) (c .if3 .taken))
 
 bottom-requires : tie.Need-bottom-requires
 unfolding prismTo
@@ -29,7 +33,9 @@ bottom-requires c κs = ((sym (c .before .before .before .before .fault .ensures
 
 returns-4 : tie.Need-returns-4
 unfolding prismTo
-returns-4 c = ap accepted (c .bottom .ensures) ∙ sym (descendant-accepted prism (c .before .before .before .before .before .before .args .self) (sym (c .before .before .before .before .before .fault .ensures) ∙ c .before .before .before .before .if1 .left) (last prism) (c .before .before .before .before .before .before .args .level) (c .before .before .before .if2 .left) (c .before .if3 .left))
+returns-4 c =
+    let start = c .before .before .before .before .before .before in
+    ap accepted (c .bottom .ensures) ∙ sym (descendant-accepted prism (start .args .self) (sym (c .before .before .before .before .before .fault .ensures) ∙ c .before .before .before .before .if1 .left) (last prism) (start .args .level) (c .before .before .before .if2 .left) (c .before .if3 .left))
 
 pub last-descendant-spec : {M : Type 1} → statement M
 last-descendant-spec =

@@ -48,7 +48,10 @@ shr-z c = omega (arith, grids 21 (c .before .before .before .args .self) (c .bef
 
 loop-holds : tie.Need-loop-holds Inv-loop μ-loop
 unfolding prismTo
-loop-holds c = climb-start (c .before .before .before .args .self .level) (c .before .before .before .args .self .x / side 21 (c .before .before .before .args .self .level)) (c .before .before .before .args .self .y / side 21 (c .before .before .before .args .self .level)) (c .before .before .before .args .self .z / side 21 (c .before .before .before .args .self .level)) (c .before .before .before .args .self .kind) (grids 21 (c .before .before .before .args .self) (c .before .before .before .pre) .0 .typed)
+loop-holds c =
+    let start = c .before .before .before in
+    let a = start .args in
+    climb-start (a .self .level) (a .self .x / side 21 (a .self .level)) (a .self .y / side 21 (a .self .level)) (a .self .z / side 21 (a .self .level)) (a .self .kind) (grids 21 (a .self) (start .pre) .0 .typed)
 
 slot-of-requires : tie.Need-slot-of-requires Inv-loop μ-loop
 unfolding prismTo
@@ -65,42 +68,60 @@ mul-sum c = omega arith
 cast-sum-2 : tie.Need-cast-sum-2 Inv-loop μ-loop
 unfolding prismTo
 cast-sum-2 c =
-    let shallow = grids 21 (c .before .before .before .before .before .before .before .args .self) (c .before .before .before .before .before .before .before .pre) .0 .shallow in
-    let digit = climb-digit (positionAt prism (c .before .before .before .before .before .before .before .args .self .level) (unit (c .before .before .before .before .before .before .before .args .self .level) (c .before .before .before .before .before .before .before .args .self .x / side 21 (c .before .before .before .before .before .before .before .args .self .level)) (c .before .before .before .before .before .before .before .args .self .y / side 21 (c .before .before .before .before .before .before .before .args .self .level)) (c .before .before .before .before .before .before .before .args .self .z / side 21 (c .before .before .before .before .before .before .before .args .self .level)) (c .before .before .before .before .before .before .before .args .self .kind))) (c .before .before .before .before .before .before .before .args .self .level) (c .before .before .before .loop .sum) (c .before .before .before .loop .i) (c .before .before .before .loop .x) (c .before .before .before .loop .y) (c .before .before .before .loop .z) (c .before .before .before .loop .kind) (c .before .before .before .loop .inv) (grids 21 (c .before .before .before .before .before .before .before .args .self) (c .before .before .before .before .before .before .before .pre) .0 .shallow) (c .before .slot-of .result) (c .before .slot-of .ensures) in
+    let at-loop = c .before .before .before in
+    let start = at-loop .before .before .before .before in
+    let a = start .args in
+    let shallow = grids 21 (a .self) (start .pre) .0 .shallow in
+    let digit = climb-digit (positionAt prism (a .self .level) (unit (a .self .level) (a .self .x / side 21 (a .self .level)) (a .self .y / side 21 (a .self .level)) (a .self .z / side 21 (a .self .level)) (a .self .kind))) (a .self .level) (at-loop .loop .sum) (at-loop .loop .i) (at-loop .loop .x) (at-loop .loop .y) (at-loop .loop .z) (at-loop .loop .kind) (at-loop .loop .inv) (grids 21 (a .self) (start .pre) .0 .shallow) (c .before .slot-of .result) (c .before .slot-of .ensures) in
     omega arith
 
 add-sum : tie.Need-add-sum Inv-loop μ-loop
 unfolding prismTo
 add-sum c =
-    let shallow = grids 21 (c .before .before .before .before .before .before .before .args .self) (c .before .before .before .before .before .before .before .pre) .0 .shallow in
-    let digit = climb-digit (positionAt prism (c .before .before .before .before .before .before .before .args .self .level) (unit (c .before .before .before .before .before .before .before .args .self .level) (c .before .before .before .before .before .before .before .args .self .x / side 21 (c .before .before .before .before .before .before .before .args .self .level)) (c .before .before .before .before .before .before .before .args .self .y / side 21 (c .before .before .before .before .before .before .before .args .self .level)) (c .before .before .before .before .before .before .before .args .self .z / side 21 (c .before .before .before .before .before .before .before .args .self .level)) (c .before .before .before .before .before .before .before .args .self .kind))) (c .before .before .before .before .before .before .before .args .self .level) (c .before .before .before .loop .sum) (c .before .before .before .loop .i) (c .before .before .before .loop .x) (c .before .before .before .loop .y) (c .before .before .before .loop .z) (c .before .before .before .loop .kind) (c .before .before .before .loop .inv) (grids 21 (c .before .before .before .before .before .before .before .args .self) (c .before .before .before .before .before .before .before .pre) .0 .shallow) (c .before .slot-of .result) (c .before .slot-of .ensures) in
+    let at-loop = c .before .before .before in
+    let start = at-loop .before .before .before .before in
+    let a = start .args in
+    let shallow = grids 21 (a .self) (start .pre) .0 .shallow in
+    let digit = climb-digit (positionAt prism (a .self .level) (unit (a .self .level) (a .self .x / side 21 (a .self .level)) (a .self .y / side 21 (a .self .level)) (a .self .z / side 21 (a .self .level)) (a .self .kind))) (a .self .level) (at-loop .loop .sum) (at-loop .loop .i) (at-loop .loop .x) (at-loop .loop .y) (at-loop .loop .z) (at-loop .loop .kind) (at-loop .loop .inv) (grids 21 (a .self) (start .pre) .0 .shallow) (c .before .slot-of .result) (c .before .slot-of .ensures) in
     omega arith
 
 mul-sum-2 : tie.Need-mul-sum-2 Inv-loop μ-loop
 unfolding prismTo
-mul-sum-2 c = omega (arith, grids 21 (c .before .before .before .before .before .before .before .args .self) (c .before .before .before .before .before .before .before .pre) .0 .shallow)
+mul-sum-2 c =
+    let start = c .before .before .before .before .before .before .before in
+    omega (arith, grids 21 (start .args .self) (start .pre) .0 .shallow)
 
 cast-sum-3 : tie.Need-cast-sum-3 Inv-loop μ-loop
 unfolding prismTo
-cast-sum-3 c = omega (arith, grids 21 (c .before .before .before .before .before .before .before .args .self) (c .before .before .before .before .before .before .before .pre) .0 .shallow)
+cast-sum-3 c =
+    let start = c .before .before .before .before .before .before .before in
+    omega (arith, grids 21 (start .args .self) (start .pre) .0 .shallow)
 
 shl-sum : tie.Need-shl-sum Inv-loop μ-loop
 unfolding prismTo
-shl-sum c = omega (arith, grids 21 (c .before .before .before .before .before .before .before .args .self) (c .before .before .before .before .before .before .before .pre) .0 .shallow)
+shl-sum c =
+    let start = c .before .before .before .before .before .before .before in
+    omega (arith, grids 21 (start .args .self) (start .pre) .0 .shallow)
 
 add-sum-2 : tie.Need-add-sum-2 Inv-loop μ-loop
 unfolding prismTo
 add-sum-2 c =
-    let shallow = grids 21 (c .before .before .before .before .before .before .before .args .self) (c .before .before .before .before .before .before .before .pre) .0 .shallow in
-    let digit = climb-digit (positionAt prism (c .before .before .before .before .before .before .before .args .self .level) (unit (c .before .before .before .before .before .before .before .args .self .level) (c .before .before .before .before .before .before .before .args .self .x / side 21 (c .before .before .before .before .before .before .before .args .self .level)) (c .before .before .before .before .before .before .before .args .self .y / side 21 (c .before .before .before .before .before .before .before .args .self .level)) (c .before .before .before .before .before .before .before .args .self .z / side 21 (c .before .before .before .before .before .before .before .args .self .level)) (c .before .before .before .before .before .before .before .args .self .kind))) (c .before .before .before .before .before .before .before .args .self .level) (c .before .before .before .loop .sum) (c .before .before .before .loop .i) (c .before .before .before .loop .x) (c .before .before .before .loop .y) (c .before .before .before .loop .z) (c .before .before .before .loop .kind) (c .before .before .before .loop .inv) (grids 21 (c .before .before .before .before .before .before .before .args .self) (c .before .before .before .before .before .before .before .pre) .0 .shallow) (c .before .slot-of .result) (c .before .slot-of .ensures) in
-    let shifted = digit-shifted 3 (4 * (c .before .before .before .loop .z % 2) + c .before .slot-of .result .number) (c .before .before .before .loop .i) digit (omega arith) in
-    let sum = sum-below 3 (c .before .before .before .loop .sum) (4 * (c .before .before .before .loop .z % 2) + c .before .slot-of .result .number) (c .before .before .before .loop .i) (c .before .before .before .loop .inv .low) digit in
-    let fits : 2 ^ (3 * suc (c .before .before .before .loop .i)) ≤ 2 ^ 63 = pow-mono {i = 3 * suc (c .before .before .before .loop .i)} {j = 63} (omega arith) in
+    let at-slot-of = c .before in
+    let at-loop = at-slot-of .before .before in
+    let start = at-loop .before .before .before .before in
+    let a = start .args in
+    let shallow = grids 21 (a .self) (start .pre) .0 .shallow in
+    let digit = climb-digit (positionAt prism (a .self .level) (unit (a .self .level) (a .self .x / side 21 (a .self .level)) (a .self .y / side 21 (a .self .level)) (a .self .z / side 21 (a .self .level)) (a .self .kind))) (a .self .level) (at-loop .loop .sum) (at-loop .loop .i) (at-loop .loop .x) (at-loop .loop .y) (at-loop .loop .z) (at-loop .loop .kind) (at-loop .loop .inv) (grids 21 (a .self) (start .pre) .0 .shallow) (at-slot-of .slot-of .result) (at-slot-of .slot-of .ensures) in
+    let shifted = digit-shifted 3 (4 * (at-loop .loop .z % 2) + at-slot-of .slot-of .result .number) (at-loop .loop .i) digit (omega arith) in
+    let sum = sum-below 3 (at-loop .loop .sum) (4 * (at-loop .loop .z % 2) + at-slot-of .slot-of .result .number) (at-loop .loop .i) (at-loop .loop .inv .low) digit in
+    let fits : 2 ^ (3 * suc (at-loop .loop .i)) ≤ 2 ^ 63 = pow-mono {i = 3 * suc (at-loop .loop .i)} {j = 63} (omega arith) in
     omega arith
 
 add-i : tie.Need-add-i Inv-loop μ-loop
 unfolding prismTo
-add-i c = omega (arith, grids 21 (c .before .before .before .before .before .before .before .args .self) (c .before .before .before .before .before .before .before .pre) .0 .shallow)
+add-i c =
+    let start = c .before .before .before .before .before .before .before in
+    omega (arith, grids 21 (start .args .self) (start .pre) .0 .shallow)
 
 loop-less : tie.Need-loop-less Inv-loop μ-loop
 unfolding prismTo
@@ -109,15 +130,22 @@ loop-less c = omega arith
 loop-again : tie.Need-loop-again Inv-loop μ-loop
 unfolding prismTo
 loop-again c =
-    let shallow = grids 21 (c .before .before .before .before .before .before .before .args .self) (c .before .before .before .before .before .before .before .pre) .0 .shallow in
-    let digit = climb-digit (positionAt prism (c .before .before .before .before .before .before .before .args .self .level) (unit (c .before .before .before .before .before .before .before .args .self .level) (c .before .before .before .before .before .before .before .args .self .x / side 21 (c .before .before .before .before .before .before .before .args .self .level)) (c .before .before .before .before .before .before .before .args .self .y / side 21 (c .before .before .before .before .before .before .before .args .self .level)) (c .before .before .before .before .before .before .before .args .self .z / side 21 (c .before .before .before .before .before .before .before .args .self .level)) (c .before .before .before .before .before .before .before .args .self .kind))) (c .before .before .before .before .before .before .before .args .self .level) (c .before .before .before .loop .sum) (c .before .before .before .loop .i) (c .before .before .before .loop .x) (c .before .before .before .loop .y) (c .before .before .before .loop .z) (c .before .before .before .loop .kind) (c .before .before .before .loop .inv) (grids 21 (c .before .before .before .before .before .before .before .args .self) (c .before .before .before .before .before .before .before .pre) .0 .shallow) (c .before .slot-of .result) (c .before .slot-of .ensures) in
-    let shifted = digit-shifted 3 (4 * (c .before .before .before .loop .z % 2) + c .before .slot-of .result .number) (c .before .before .before .loop .i) digit (omega arith) in
-    subst⁻¹ (λ (m : ℕ). Climbed (positionAt prism (c .before .before .before .before .before .before .before .args .self .level) (unit (c .before .before .before .before .before .before .before .args .self .level) (c .before .before .before .before .before .before .before .args .self .x / side 21 (c .before .before .before .before .before .before .before .args .self .level)) (c .before .before .before .before .before .before .before .args .self .y / side 21 (c .before .before .before .before .before .before .before .args .self .level)) (c .before .before .before .before .before .before .before .args .self .z / side 21 (c .before .before .before .before .before .before .before .args .self .level)) (c .before .before .before .before .before .before .before .args .self .kind))) (c .before .before .before .before .before .before .before .args .self .level) (c .before .before .before .loop .sum + m) (c .before .before .before .loop .i + 1) (c .before .before .before .loop .x / 2) (c .before .before .before .loop .y / 2) (c .before .before .before .loop .z / 2) (c .before .slot-of .result .kind)) shifted
-    (climb-again (positionAt prism (c .before .before .before .before .before .before .before .args .self .level) (unit (c .before .before .before .before .before .before .before .args .self .level) (c .before .before .before .before .before .before .before .args .self .x / side 21 (c .before .before .before .before .before .before .before .args .self .level)) (c .before .before .before .before .before .before .before .args .self .y / side 21 (c .before .before .before .before .before .before .before .args .self .level)) (c .before .before .before .before .before .before .before .args .self .z / side 21 (c .before .before .before .before .before .before .before .args .self .level)) (c .before .before .before .before .before .before .before .args .self .kind))) (c .before .before .before .before .before .before .before .args .self .level) (c .before .before .before .loop .sum) (c .before .before .before .loop .i) (c .before .before .before .loop .x) (c .before .before .before .loop .y) (c .before .before .before .loop .z) (c .before .before .before .loop .kind) (c .before .before .before .loop .inv) (grids 21 (c .before .before .before .before .before .before .before .args .self) (c .before .before .before .before .before .before .before .pre) .0 .shallow) (c .before .slot-of .result) (c .before .slot-of .ensures) (c .before .before .loop-test .taken))
+    let at-slot-of = c .before in
+    let at-loop = at-slot-of .before .before in
+    let start = at-loop .before .before .before .before in
+    let a = start .args in
+    let shallow = grids 21 (a .self) (start .pre) .0 .shallow in
+    let digit = climb-digit (positionAt prism (a .self .level) (unit (a .self .level) (a .self .x / side 21 (a .self .level)) (a .self .y / side 21 (a .self .level)) (a .self .z / side 21 (a .self .level)) (a .self .kind))) (a .self .level) (at-loop .loop .sum) (at-loop .loop .i) (at-loop .loop .x) (at-loop .loop .y) (at-loop .loop .z) (at-loop .loop .kind) (at-loop .loop .inv) (grids 21 (a .self) (start .pre) .0 .shallow) (at-slot-of .slot-of .result) (at-slot-of .slot-of .ensures) in
+    let shifted = digit-shifted 3 (4 * (at-loop .loop .z % 2) + at-slot-of .slot-of .result .number) (at-loop .loop .i) digit (omega arith) in
+    subst⁻¹ (λ (m : ℕ). Climbed (positionAt prism (a .self .level) (unit (a .self .level) (a .self .x / side 21 (a .self .level)) (a .self .y / side 21 (a .self .level)) (a .self .z / side 21 (a .self .level)) (a .self .kind))) (a .self .level) (at-loop .loop .sum + m) (at-loop .loop .i + 1) (at-loop .loop .x / 2) (at-loop .loop .y / 2) (at-loop .loop .z / 2) (at-slot-of .slot-of .result .kind)) shifted
+    (climb-again (positionAt prism (a .self .level) (unit (a .self .level) (a .self .x / side 21 (a .self .level)) (a .self .y / side 21 (a .self .level)) (a .self .z / side 21 (a .self .level)) (a .self .kind))) (a .self .level) (at-loop .loop .sum) (at-loop .loop .i) (at-loop .loop .x) (at-loop .loop .y) (at-loop .loop .z) (at-loop .loop .kind) (at-loop .loop .inv) (grids 21 (a .self) (start .pre) .0 .shallow) (at-slot-of .slot-of .result) (at-slot-of .slot-of .ensures) (c .before .before .loop-test .taken))
 
 returns : tie.Need-returns Inv-loop μ-loop
 unfolding prismTo
-returns c = climb-end (c .before .before .before .before .before .args .self) (c .before .loop .sum) (c .before .loop .i) (c .before .loop .x) (c .before .loop .y) (c .before .loop .z) (c .before .loop .kind) (c .before .before .before .before .before .pre) (c .before .loop .inv) (c .loop-test .left)
+returns c =
+    let at-loop = c .before in
+    let start = at-loop .before .before .before .before in
+    climb-end (start .args .self) (at-loop .loop .sum) (at-loop .loop .i) (at-loop .loop .x) (at-loop .loop .y) (at-loop .loop .z) (at-loop .loop .kind) (start .pre) (at-loop .loop .inv) (c .loop-test .left)
 
 pub rank-spec : {M : Type 1} → statement M
 rank-spec =

@@ -51,9 +51,10 @@ returns-2 c =
 up-requires : tie.Need-up-requires Inv-loop μ-loop
 unfolding prismTo
 up-requires c κs =
-    let a = c .before .before .before .before .before .before .before .before .before .args in
+    let start = c .before .before .before .before .before .before .before .before .before in
+    let a = start .args in
     let cs = columns (a .xs .now) (a .ys .now) (a .zs .now) (a .levels .now) (a .kinds .now) in
-    let sound : prism .fault (element cs 0) ≡ 0 = scan-all (prism .fault) (element cs) 0 (length (cs .x)) 0 (c .before .before .before .before .before .before .before .before .before .pre .sound) (omega arith) in
+    let sound : prism .fault (element cs 0) ≡ 0 = scan-all (prism .fault) (element cs) 0 (length (cs .x)) 0 (start .pre .sound) (omega arith) in
     (ap (prism .fault) (c .before .before .row .ensures) ∙ sound, omega (arith, c .if2 .left))
 
 loop-holds : tie.Need-loop-holds Inv-loop μ-loop
@@ -77,14 +78,17 @@ cast-down c = omega arith
 down-requires : tie.Need-down-requires Inv-loop μ-loop
 unfolding prismTo
 down-requires c κs =
-    let a = c .before .before .before .before .before .before .before .before .before .before .before .before .args in
+    let at-up = c .before .before in
+    let at-row = at-up .before .before .before in
+    let start = at-row .before .before .before .before .before .before .before in
+    let a = start .args in
     let cs = columns (a .xs .now) (a .ys .now) (a .zs .now) (a .levels .now) (a .kinds .now) in
     let first = element cs 0 in
-    let deep : first .level ≡ 0 → ⊥ = λ flat. c .before .before .before .if2 .left (ap (λ (e : Prism). e .level) (c .before .before .before .before .before .row .ensures) ∙ flat) in
-    let sound : prism .fault first ≡ 0 = scan-all (prism .fault) (element cs) 0 (length (cs .x)) 0 (c .before .before .before .before .before .before .before .before .before .before .before .before .pre .sound) (omega arith) in
-    let above : c .before .before .up .result ≡ prism .parent first = c .before .before .up .ensures ∙ ap (prism .parent) (c .before .before .before .before .before .row .ensures) in
-    let under : Sound prism (c .before .before .up .result) = rw above (lawful 21 .parent-sound first sound (omega (arith, deep))) in
-    let higher : (c .before .before .up .result) .level < 21 =
+    let deep : first .level ≡ 0 → ⊥ = λ flat. c .before .before .before .if2 .left (ap (λ (e : Prism). e .level) (at-row .row .ensures) ∙ flat) in
+    let sound : prism .fault first ≡ 0 = scan-all (prism .fault) (element cs) 0 (length (cs .x)) 0 (start .pre .sound) (omega arith) in
+    let above : at-up .up .result ≡ prism .parent first = at-up .up .ensures ∙ ap (prism .parent) (at-row .row .ensures) in
+    let under : Sound prism (at-up .up .result) = rw above (lawful 21 .parent-sound first sound (omega (arith, deep))) in
+    let higher : (at-up .up .result) .level < 21 =
     rw above (omega (arith, lawful 21 .parent-level first (omega (arith, deep)), lawful 21 .shallow first sound)) in
     (under, (higher, c .loop-test .taken))
 
@@ -97,13 +101,16 @@ equals-requires c κs = tt
 returns-3 : tie.Need-returns-3 Inv-loop μ-loop
 unfolding prismTo
 returns-3 c =
-    let a = c .before .before .before .before .before .before .before .before .before .before .before .before .before .before .before .before .args in
+    let at-loop = c .before .before .before .before .before in
+    let at-up = at-loop .before in
+    let start = at-up .before .before .before .before .before .before .before .before .before .before in
+    let a = start .args in
     let cs = columns (a .xs .now) (a .ys .now) (a .zs .now) (a .levels .now) (a .kinds .now) in
-    let i = c .before .before .before .before .before .loop .i in
-    let parent = c .before .before .before .before .before .before .up .result in
+    let i = at-loop .loop .i in
+    let parent = at-up .up .result in
     let alike : prism .same (prism .child parent i) (element cs i) ≡ false =
     sym (c .before .equals .ensures ∙ ap₂ (prism .same) (c .before .before .before .down .ensures) (c .before .before .row2 .ensures)) ∙ not-true (c .before .equals .result) (c .if3 .taken) in
-    sym (c .before .before .before .before .before .loop .inv .1 ∙ sibling-differs prism (lawful 21) (element cs) parent 8 i (c .before .before .before .before .loop-test .taken) alike)
+    sym (at-loop .loop .inv .1 ∙ sibling-differs prism (lawful 21) (element cs) parent 8 i (c .before .before .before .before .loop-test .taken) alike)
 
 add-i : tie.Need-add-i Inv-loop μ-loop
 add-i c = omega arith
@@ -114,13 +121,16 @@ loop-less c = omega arith
 loop-again : tie.Need-loop-again Inv-loop μ-loop
 unfolding prismTo
 loop-again c =
-    let a = c .before .before .before .before .before .before .before .before .before .before .before .before .before .before .before .before .args in
+    let at-loop = c .before .before .before .before .before in
+    let at-up = at-loop .before in
+    let start = at-up .before .before .before .before .before .before .before .before .before .before in
+    let a = start .args in
     let cs = columns (a .xs .now) (a .ys .now) (a .zs .now) (a .levels .now) (a .kinds .now) in
-    let i = c .before .before .before .before .before .loop .i in
-    let parent = c .before .before .before .before .before .before .up .result in
+    let i = at-loop .loop .i in
+    let parent = at-up .up .result in
     let alike : prism .same (prism .child parent i) (element cs i) ≡ true =
     sym (c .before .equals .ensures ∙ ap₂ (prism .same) (c .before .before .before .down .ensures) (c .before .before .row2 .ensures)) ∙ not-false (c .before .equals .result) (c .if3 .left) in
-    (omega arith, c .before .before .before .before .before .loop .inv .1 ∙ sibling-step prism (lawful 21) (element cs) parent 8 i (c .before .before .before .before .loop-test .taken) alike)
+    (omega arith, at-loop .loop .inv .1 ∙ sibling-step prism (lawful 21) (element cs) parent 8 i (c .before .before .before .before .loop-test .taken) alike)
 
 returns-4 : tie.Need-returns-4 Inv-loop μ-loop
 unfolding prismTo

@@ -30,7 +30,9 @@ shr-d c = omega (arith, c .before .loop .inv .fewer)
 
 cast-d-2 : tie.Need-cast-d-2 Inv-loop μ-loop
 cast-d-2 c =
-    let low = digit-lt (c .before .before .args .level) (c .before .before .args .position) (c .before .before .pre .0) (c .before .loop .left) (c .before .loop .x) (c .before .loop .y) (c .before .loop .z) (c .before .loop .kind) (c .before .loop .inv) in
+    let at-loop = c .before in
+    let start = at-loop .before in
+    let low = digit-lt (start .args .level) (start .args .position) (start .pre .0) (at-loop .loop .left) (at-loop .loop .x) (at-loop .loop .y) (at-loop .loop .z) (at-loop .loop .kind) (at-loop .loop .inv) in
     omega arith
 
 child-row-requires : tie.Need-child-row-requires Inv-loop μ-loop
@@ -38,61 +40,89 @@ child-row-requires c κs = tt
 
 mul-x : tie.Need-mul-x Inv-loop μ-loop
 mul-x c =
-    let room : 2 ^ (c .before .before .before .args .level - c .before .before .loop .left) ≤ 2 ^ 21 = pow-mono {i = c .before .before .before .args .level - c .before .before .loop .left} {j = 21} (omega (arith, c .before .before .before .pre .0)) in
-    omega (arith, c .before .before .loop .inv .wide)
+    let at-loop = c .before .before in
+    let start = at-loop .before in
+    let room : 2 ^ (start .args .level - at-loop .loop .left) ≤ 2 ^ 21 = pow-mono {i = start .args .level - at-loop .loop .left} {j = 21} (omega (arith, start .pre .0)) in
+    omega (arith, at-loop .loop .inv .wide)
 
 cast-x : tie.Need-cast-x Inv-loop μ-loop
 cast-x c =
-    let bits = small (c .before .before .before .before .args .level) (c .before .before .before .before .args .position) (c .before .before .before .before .pre .0) (c .before .before .before .loop .left) (c .before .before .before .loop .x) (c .before .before .before .loop .y) (c .before .before .before .loop .z) (c .before .before .before .loop .kind) (c .before .before .before .loop .inv) (c .before .child-row .result) (c .before .child-row .ensures) in
-    let room : 2 ^ (c .before .before .before .before .args .level - c .before .before .before .loop .left) ≤ 2 ^ 21 = pow-mono {i = c .before .before .before .before .args .level - c .before .before .before .loop .left} {j = 21} (omega (arith, c .before .before .before .before .pre .0)) in
+    let at-loop = c .before .before .before in
+    let start = at-loop .before in
+    let a = start .args in
+    let bits = small (a .level) (a .position) (start .pre .0) (at-loop .loop .left) (at-loop .loop .x) (at-loop .loop .y) (at-loop .loop .z) (at-loop .loop .kind) (at-loop .loop .inv) (c .before .child-row .result) (c .before .child-row .ensures) in
+    let room : 2 ^ (a .level - at-loop .loop .left) ≤ 2 ^ 21 = pow-mono {i = a .level - at-loop .loop .left} {j = 21} (omega (arith, start .pre .0)) in
     omega (arith, bits .0)
 
 add-x : tie.Need-add-x Inv-loop μ-loop
 add-x c =
-    let bits = small (c .before .before .before .before .args .level) (c .before .before .before .before .args .position) (c .before .before .before .before .pre .0) (c .before .before .before .loop .left) (c .before .before .before .loop .x) (c .before .before .before .loop .y) (c .before .before .before .loop .z) (c .before .before .before .loop .kind) (c .before .before .before .loop .inv) (c .before .child-row .result) (c .before .child-row .ensures) in
-    let room : 2 ^ (c .before .before .before .before .args .level - c .before .before .before .loop .left) ≤ 2 ^ 21 = pow-mono {i = c .before .before .before .before .args .level - c .before .before .before .loop .left} {j = 21} (omega (arith, c .before .before .before .before .pre .0)) in
-    omega (arith, bits .0, c .before .before .before .loop .inv .wide)
+    let at-loop = c .before .before .before in
+    let start = at-loop .before in
+    let a = start .args in
+    let bits = small (a .level) (a .position) (start .pre .0) (at-loop .loop .left) (at-loop .loop .x) (at-loop .loop .y) (at-loop .loop .z) (at-loop .loop .kind) (at-loop .loop .inv) (c .before .child-row .result) (c .before .child-row .ensures) in
+    let room : 2 ^ (a .level - at-loop .loop .left) ≤ 2 ^ 21 = pow-mono {i = a .level - at-loop .loop .left} {j = 21} (omega (arith, start .pre .0)) in
+    omega (arith, bits .0, at-loop .loop .inv .wide)
 
 mul-y : tie.Need-mul-y Inv-loop μ-loop
 mul-y c =
-    let bits = small (c .before .before .before .before .args .level) (c .before .before .before .before .args .position) (c .before .before .before .before .pre .0) (c .before .before .before .loop .left) (c .before .before .before .loop .x) (c .before .before .before .loop .y) (c .before .before .before .loop .z) (c .before .before .before .loop .kind) (c .before .before .before .loop .inv) (c .before .child-row .result) (c .before .child-row .ensures) in
-    let room : 2 ^ (c .before .before .before .before .args .level - c .before .before .before .loop .left) ≤ 2 ^ 21 = pow-mono {i = c .before .before .before .before .args .level - c .before .before .before .loop .left} {j = 21} (omega (arith, c .before .before .before .before .pre .0)) in
-    omega (arith, c .before .before .before .loop .inv .deep)
+    let at-loop = c .before .before .before in
+    let start = at-loop .before in
+    let a = start .args in
+    let bits = small (a .level) (a .position) (start .pre .0) (at-loop .loop .left) (at-loop .loop .x) (at-loop .loop .y) (at-loop .loop .z) (at-loop .loop .kind) (at-loop .loop .inv) (c .before .child-row .result) (c .before .child-row .ensures) in
+    let room : 2 ^ (a .level - at-loop .loop .left) ≤ 2 ^ 21 = pow-mono {i = a .level - at-loop .loop .left} {j = 21} (omega (arith, start .pre .0)) in
+    omega (arith, at-loop .loop .inv .deep)
 
 cast-y : tie.Need-cast-y Inv-loop μ-loop
 cast-y c =
-    let bits = small (c .before .before .before .before .before .args .level) (c .before .before .before .before .before .args .position) (c .before .before .before .before .before .pre .0) (c .before .before .before .before .loop .left) (c .before .before .before .before .loop .x) (c .before .before .before .before .loop .y) (c .before .before .before .before .loop .z) (c .before .before .before .before .loop .kind) (c .before .before .before .before .loop .inv) (c .before .before .child-row .result) (c .before .before .child-row .ensures) in
-    let room : 2 ^ (c .before .before .before .before .before .args .level - c .before .before .before .before .loop .left) ≤ 2 ^ 21 = pow-mono {i = c .before .before .before .before .before .args .level - c .before .before .before .before .loop .left} {j = 21} (omega (arith, c .before .before .before .before .before .pre .0)) in
+    let at-loop = c .before .before .before .before in
+    let start = at-loop .before in
+    let a = start .args in
+    let bits = small (a .level) (a .position) (start .pre .0) (at-loop .loop .left) (at-loop .loop .x) (at-loop .loop .y) (at-loop .loop .z) (at-loop .loop .kind) (at-loop .loop .inv) (c .before .before .child-row .result) (c .before .before .child-row .ensures) in
+    let room : 2 ^ (a .level - at-loop .loop .left) ≤ 2 ^ 21 = pow-mono {i = a .level - at-loop .loop .left} {j = 21} (omega (arith, start .pre .0)) in
     omega (arith, bits .1 .0)
 
 add-y : tie.Need-add-y Inv-loop μ-loop
 add-y c =
-    let bits = small (c .before .before .before .before .before .args .level) (c .before .before .before .before .before .args .position) (c .before .before .before .before .before .pre .0) (c .before .before .before .before .loop .left) (c .before .before .before .before .loop .x) (c .before .before .before .before .loop .y) (c .before .before .before .before .loop .z) (c .before .before .before .before .loop .kind) (c .before .before .before .before .loop .inv) (c .before .before .child-row .result) (c .before .before .child-row .ensures) in
-    let room : 2 ^ (c .before .before .before .before .before .args .level - c .before .before .before .before .loop .left) ≤ 2 ^ 21 = pow-mono {i = c .before .before .before .before .before .args .level - c .before .before .before .before .loop .left} {j = 21} (omega (arith, c .before .before .before .before .before .pre .0)) in
-    omega (arith, bits .1 .0, c .before .before .before .before .loop .inv .deep)
+    let at-loop = c .before .before .before .before in
+    let start = at-loop .before in
+    let a = start .args in
+    let bits = small (a .level) (a .position) (start .pre .0) (at-loop .loop .left) (at-loop .loop .x) (at-loop .loop .y) (at-loop .loop .z) (at-loop .loop .kind) (at-loop .loop .inv) (c .before .before .child-row .result) (c .before .before .child-row .ensures) in
+    let room : 2 ^ (a .level - at-loop .loop .left) ≤ 2 ^ 21 = pow-mono {i = a .level - at-loop .loop .left} {j = 21} (omega (arith, start .pre .0)) in
+    omega (arith, bits .1 .0, at-loop .loop .inv .deep)
 
 mul-z : tie.Need-mul-z Inv-loop μ-loop
 mul-z c =
-    let bits = small (c .before .before .before .before .before .args .level) (c .before .before .before .before .before .args .position) (c .before .before .before .before .before .pre .0) (c .before .before .before .before .loop .left) (c .before .before .before .before .loop .x) (c .before .before .before .before .loop .y) (c .before .before .before .before .loop .z) (c .before .before .before .before .loop .kind) (c .before .before .before .before .loop .inv) (c .before .before .child-row .result) (c .before .before .child-row .ensures) in
-    let room : 2 ^ (c .before .before .before .before .before .args .level - c .before .before .before .before .loop .left) ≤ 2 ^ 21 = pow-mono {i = c .before .before .before .before .before .args .level - c .before .before .before .before .loop .left} {j = 21} (omega (arith, c .before .before .before .before .before .pre .0)) in
-    omega (arith, c .before .before .before .before .loop .inv .high)
+    let at-loop = c .before .before .before .before in
+    let start = at-loop .before in
+    let a = start .args in
+    let bits = small (a .level) (a .position) (start .pre .0) (at-loop .loop .left) (at-loop .loop .x) (at-loop .loop .y) (at-loop .loop .z) (at-loop .loop .kind) (at-loop .loop .inv) (c .before .before .child-row .result) (c .before .before .child-row .ensures) in
+    let room : 2 ^ (a .level - at-loop .loop .left) ≤ 2 ^ 21 = pow-mono {i = a .level - at-loop .loop .left} {j = 21} (omega (arith, start .pre .0)) in
+    omega (arith, at-loop .loop .inv .high)
 
 cast-z : tie.Need-cast-z Inv-loop μ-loop
 cast-z c =
-    let low = digit-lt (c .before .before .before .before .before .args .level) (c .before .before .before .before .before .args .position) (c .before .before .before .before .before .pre .0) (c .before .before .before .before .loop .left) (c .before .before .before .before .loop .x) (c .before .before .before .before .loop .y) (c .before .before .before .before .loop .z) (c .before .before .before .before .loop .kind) (c .before .before .before .before .loop .inv) in
+    let at-loop = c .before .before .before .before in
+    let start = at-loop .before in
+    let low = digit-lt (start .args .level) (start .args .position) (start .pre .0) (at-loop .loop .left) (at-loop .loop .x) (at-loop .loop .y) (at-loop .loop .z) (at-loop .loop .kind) (at-loop .loop .inv) in
     omega arith
 
 add-z : tie.Need-add-z Inv-loop μ-loop
 add-z c =
-    let low = digit-lt (c .before .before .before .before .before .args .level) (c .before .before .before .before .before .args .position) (c .before .before .before .before .before .pre .0) (c .before .before .before .before .loop .left) (c .before .before .before .before .loop .x) (c .before .before .before .before .loop .y) (c .before .before .before .before .loop .z) (c .before .before .before .before .loop .kind) (c .before .before .before .before .loop .inv) in
-    let room : 2 ^ (c .before .before .before .before .before .args .level - c .before .before .before .before .loop .left) ≤ 2 ^ 21 = pow-mono {i = c .before .before .before .before .before .args .level - c .before .before .before .before .loop .left} {j = 21} (omega (arith, c .before .before .before .before .before .pre .0)) in
-    omega (arith, c .before .before .before .before .loop .inv .high)
+    let at-loop = c .before .before .before .before in
+    let start = at-loop .before in
+    let a = start .args in
+    let low = digit-lt (a .level) (a .position) (start .pre .0) (at-loop .loop .left) (at-loop .loop .x) (at-loop .loop .y) (at-loop .loop .z) (at-loop .loop .kind) (at-loop .loop .inv) in
+    let room : 2 ^ (a .level - at-loop .loop .left) ≤ 2 ^ 21 = pow-mono {i = a .level - at-loop .loop .left} {j = 21} (omega (arith, start .pre .0)) in
+    omega (arith, at-loop .loop .inv .high)
 
 loop-less : tie.Need-loop-less Inv-loop μ-loop
 loop-less c = omega arith
 
 loop-again : tie.Need-loop-again Inv-loop μ-loop
-loop-again c = again (c .before .before .before .before .before .args .level) (c .before .before .before .before .before .args .position) (c .before .before .before .before .before .pre .0) (c .before .before .before .before .loop .left) (c .before .before .before .before .loop .x) (c .before .before .before .before .loop .y) (c .before .before .before .before .loop .z) (c .before .before .before .before .loop .kind) (c .before .before .before .before .loop .inv) (c .before .before .before .loop-test .taken) (c .before .before .child-row .result) (c .before .before .child-row .ensures)
+loop-again c =
+    let at-loop = c .before .before .before .before in
+    let start = at-loop .before in
+    again (start .args .level) (start .args .position) (start .pre .0) (at-loop .loop .left) (at-loop .loop .x) (at-loop .loop .y) (at-loop .loop .z) (at-loop .loop .kind) (at-loop .loop .inv) (c .before .before .before .loop-test .taken) (c .before .before .child-row .result) (c .before .before .child-row .ensures)
 
 sub-s : tie.Need-sub-s Inv-loop μ-loop
 sub-s c = c .before .before .pre .0
@@ -116,7 +146,10 @@ shl-t23 : tie.Need-shl-t23 Inv-loop μ-loop
 shl-t23 c = omega arith
 
 returns : tie.Need-returns Inv-loop μ-loop
-returns c = end (c .before .before .args .level) (c .before .before .args .position) (c .before .before .pre .0) (c .before .loop .left) (c .before .loop .x) (c .before .loop .y) (c .before .loop .z) (c .before .loop .kind) (c .before .loop .inv) (c .loop-test .left)
+returns c =
+    let at-loop = c .before in
+    let start = at-loop .before in
+    end (start .args .level) (start .args .position) (start .pre .0) (at-loop .loop .left) (at-loop .loop .x) (at-loop .loop .y) (at-loop .loop .z) (at-loop .loop .kind) (at-loop .loop .inv) (c .loop-test .left)
 
 pub placed-spec : {M : Type 1} → statement M
 placed-spec =

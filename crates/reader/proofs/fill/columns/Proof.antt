@@ -30,14 +30,15 @@ pair-at-requires c κs = search needs
 
 run-requires : tie.Need-run-requires Inv-loop μ-loop
 run-requires c κs =
-    let at-loop = c .before .before .before .before .before in
+    let at-before = c .before .before .before .before in
+    let at-loop = at-before .before in
     let start = at-loop .before .before .before .before .before in
     let a = start .args in
     let l = at-loop .loop in
     let pair = c .before .before .before .pair-at in
     let turn =
     turn-is (2 ^ (a .bits)) (a .highest) (a .k) (pow-pos (a .bits)) (a .bytes .now) _ _ (l .left) (l .at) (spotOf (l .come)) (l .size) _ (l .inv)
-    (omega (arith, start .fits .highest)) (omega (arith, c .before .before .before .before .loop-test .taken)) (pair .result .level) (pair .result .count) (pair .result .next) (pair .ensures) in
+    (omega (arith, start .fits .highest)) (omega (arith, at-before .loop-test .taken)) (pair .result .level) (pair .result .count) (pair .result .next) (pair .ensures) in
     let room = start .pre .1 .1 in (
       record {
         narrow = start .pre .0;
@@ -58,14 +59,16 @@ cast-size c = search needs
 
 add-size : tie.Need-add-size Inv-loop μ-loop
 add-size c =
-    let at-loop = c .before .before .before .before .before .before .before .before .before .before .before .before .before in
+    let at-pair-at = c .before .before .before .before .before .before .before .before .before .before .before in
+    let at-before = at-pair-at .before in
+    let at-loop = at-before .before in
     let start = at-loop .before .before .before .before .before in
     let a = start .args in
     let l = at-loop .loop in
-    let pair = c .before .before .before .before .before .before .before .before .before .before .before .pair-at in
+    let pair = at-pair-at .pair-at in
     let turn =
     turn-is (2 ^ (a .bits)) (a .highest) (a .k) (pow-pos (a .bits)) (a .bytes .now) _ _ (l .left) (l .at) (spotOf (l .come)) (l .size) _ (l .inv)
-    (omega (arith, start .fits .highest)) (omega (arith, c .before .before .before .before .before .before .before .before .before .before .before .before .loop-test .taken)) (pair .result .level) (pair .result .count) (pair .result .next) (pair .ensures) in
+    (omega (arith, start .fits .highest)) (omega (arith, at-before .loop-test .taken)) (pair .result .level) (pair .result .count) (pair .result .next) (pair .ensures) in
     omega (arith, turn .few)
 
 sub-left : tie.Need-sub-left Inv-loop μ-loop
@@ -76,15 +79,18 @@ loop-less c = omega (arith, c .before .before .before .before .before .before .b
 
 loop-again : tie.Need-loop-again Inv-loop μ-loop
 loop-again c =
-    let at-loop = c .before .before .before .before .before .before .before .before .before .before .before .before .before in
+    let at-run = c .before .before .before .before .before .before .before in
+    let at-pair-at = at-run .before .before .before .before in
+    let at-before = at-pair-at .before in
+    let at-loop = at-before .before in
     let start = at-loop .before .before .before .before .before in
     let a = start .args in
     let l = at-loop .loop in
-    let pair = c .before .before .before .before .before .before .before .before .before .before .before .pair-at in
+    let pair = at-pair-at .pair-at in
     let turn =
     turn-is (2 ^ (a .bits)) (a .highest) (a .k) (pow-pos (a .bits)) (a .bytes .now) _ _ (l .left) (l .at) (spotOf (l .come)) (l .size) _ (l .inv)
-    (omega (arith, start .fits .highest)) (omega (arith, c .before .before .before .before .before .before .before .before .before .before .before .before .loop-test .taken)) (pair .result .level) (pair .result .count) (pair .result .next) (pair .ensures) in
-    let laid = c .before .before .before .before .before .before .before .run .ensures in
+    (omega (arith, start .fits .highest)) (omega (arith, at-before .loop-test .taken)) (pair .result .level) (pair .result .count) (pair .result .next) (pair .ensures) in
+    let laid = at-run .run .ensures in
     turn .more _ (start .pre .1 .1) _ (laid .ends) (laid .memory)
 
 same-length : tie.Need-same-length Inv-loop μ-loop

@@ -91,8 +91,9 @@ add-lay c = search needs
 
 cast-lay : tie.Need-cast-lay Inv-loop μ-loop
 cast-lay c =
+    let at-before = c .before .before .before .before .before .before in
     let l = c .before .before .loop in
-    let start = c .before .before .before .before .before .before .before in
+    let start = at-before .before in
     let a = start .args in
     let f = start .pre .0 in
     omega (arith, root-low _ _ _ _ _ _ _ _ _ _ _ (l .inv) (some-each (a .bits) (a .highest) (a .level) (a .count) (spotOf (a .come)) f) (end-low (a .bits) (a .highest) (a .level) (a .count) (spotOf (a .come)) f))
@@ -102,64 +103,90 @@ lay-requires c κs = search needs
 
 add-done : tie.Need-add-done Inv-loop μ-loop
 add-done c =
-    let many = c .before .before .before .before .before .before .before .before .before .before .least .ensures in
-    omega (arith, many .1 .0, c .before .before .before .before .before .before .before .before .before .before .before .loop-test .taken, c .before .before .before .before .before .before .before .before .before .before .before .before .before .before .before .before .before .fits .count)
+    let at-least = c .before .before .before .before .before .before .before .before .before .before in
+    let at-loop-test = at-least .before in
+    let at-fits = at-loop-test .before .before .before .before .before .before in
+    let many = at-least .least .ensures in
+    omega (arith, many .1 .0, at-loop-test .loop-test .taken, at-fits .fits .count)
 
 add-position : tie.Need-add-position Inv-loop μ-loop
 add-position c =
-    let l = c .before .before .before .before .before .before .before .before .before .before .before .before .loop in
-    let start = c .before .before .before .before .before .before .before .before .before .before .before .before .before .before .before .before .before in
+    let at-least = c .before .before .before .before .before .before .before .before .before .before in
+    let at-loop = at-least .before .before in
+    let at-before = at-loop .before .before .before .before in
+    let l = at-loop .loop in
+    let start = at-before .before in
     let a = start .args in
     let f = start .pre .0 in
-    omega (arith, c .before .before .before .before .before .before .before .before .before .before .least .ensures .0, position-below _ _ _ _ _ _ _ _ _ _ _ (l .inv) (some-each (a .bits) (a .highest) (a .level) (a .count) (spotOf (a .come)) f), each-small (a .bits) (a .highest) (a .level) (a .count) (spotOf (a .come)) f)
+    omega (arith, at-least .least .ensures .0, position-below _ _ _ _ _ _ _ _ _ _ _ (l .inv) (some-each (a .bits) (a .highest) (a .level) (a .count) (spotOf (a .come)) f), each-small (a .bits) (a .highest) (a .level) (a .count) (spotOf (a .come)) f)
 
 add-root : tie.Need-add-root Inv-loop μ-loop
 add-root c =
-    let l = c .before .before .before .before .before .before .before .before .before .before .before .before .before .loop in
-    let start = c .before .before .before .before .before .before .before .before .before .before .before .before .before .before .before .before .before .before in
+    let at-loop = c .before .before .before .before .before .before .before .before .before .before .before .before .before in
+    let at-before = at-loop .before .before .before .before in
+    let l = at-loop .loop in
+    let start = at-before .before in
     let a = start .args in
     let f = start .pre .0 in
     omega (arith, root-low _ _ _ _ _ _ _ _ _ _ _ (l .inv) (some-each (a .bits) (a .highest) (a .level) (a .count) (spotOf (a .come)) f) (end-low (a .bits) (a .highest) (a .level) (a .count) (spotOf (a .come)) f))
 
 loop-less : tie.Need-loop-less Inv-loop μ-loop
 loop-less c =
-    let l = c .before .before .before .before .before .before .before .before .before .before .before .before .before .loop in
-    let start = c .before .before .before .before .before .before .before .before .before .before .before .before .before .before .before .before .before .before in
+    let at-least = c .before .before .before .before .before .before .before .before .before .before .before in
+    let at-loop-test = at-least .before in
+    let at-loop = at-loop-test .before in
+    let at-before = at-loop .before .before .before .before in
+    let l = at-loop .loop in
+    let start = at-before .before in
     let a = start .args in
     let f = start .pre .0 in
-    let taken = c .before .before .before .before .before .before .before .before .before .before .before .before .loop-test .taken in
-    let many = c .before .before .before .before .before .before .before .before .before .before .before .least .ensures in
+    let taken = at-loop-test .loop-test .taken in
+    let many = at-least .least .ensures in
     let some = many .1 .1 (omega (arith, position-below _ _ _ _ _ _ _ _ _ _ _ (l .inv) (some-each (a .bits) (a .highest) (a .level) (a .count) (spotOf (a .come)) f))) (omega (arith, taken)) in
     omega (arith, taken, many .1 .0, some)
 
 loop-again : tie.Need-loop-again Inv-loop μ-loop
 loop-again c =
-    let l = c .before .before .before .before .before .before .before .before .before .before .before .before .before .loop in
-    let start = c .before .before .before .before .before .before .before .before .before .before .before .before .before .before .before .before .before .before in
+    let at-lay = c .before .before .before .before .before .before .before in
+    let at-least = at-lay .before .before .before .before in
+    let at-loop-test = at-least .before in
+    let at-loop = at-loop-test .before in
+    let at-before = at-loop .before .before .before .before in
+    let l = at-loop .loop in
+    let start = at-before .before in
     let a = start .args in
     let f = start .pre .0 in
-    let many = c .before .before .before .before .before .before .before .before .before .before .before .least .ensures in
-    laid-full _ _ _ _ _ _ _ _ _ _ _ (l .inv) (some-each (a .bits) (a .highest) (a .level) (a .count) (spotOf (a .come)) f) (each-small (a .bits) (a .highest) (a .level) (a .count) (spotOf (a .come)) f) (start .pre .1) _ _ _ (many .0) (omega (arith, many .1 .0, c .before .before .before .before .before .before .before .before .before .before .before .before .loop-test .taken)) (c .before .before .before .before .before .before .before .lay .ensures) (c .if1 .taken)
+    let many = at-least .least .ensures in
+    laid-full _ _ _ _ _ _ _ _ _ _ _ (l .inv) (some-each (a .bits) (a .highest) (a .level) (a .count) (spotOf (a .come)) f) (each-small (a .bits) (a .highest) (a .level) (a .count) (spotOf (a .come)) f) (start .pre .1) _ _ _ (many .0) (omega (arith, many .1 .0, at-loop-test .loop-test .taken)) (at-lay .lay .ensures) (c .if1 .taken)
 
 loop-less-2 : tie.Need-loop-less-2 Inv-loop μ-loop
 loop-less-2 c =
-    let l = c .before .before .before .before .before .before .before .before .before .before .before .before .before .loop in
-    let start = c .before .before .before .before .before .before .before .before .before .before .before .before .before .before .before .before .before .before in
+    let at-least = c .before .before .before .before .before .before .before .before .before .before .before in
+    let at-loop-test = at-least .before in
+    let at-loop = at-loop-test .before in
+    let at-before = at-loop .before .before .before .before in
+    let l = at-loop .loop in
+    let start = at-before .before in
     let a = start .args in
     let f = start .pre .0 in
-    let taken = c .before .before .before .before .before .before .before .before .before .before .before .before .loop-test .taken in
-    let many = c .before .before .before .before .before .before .before .before .before .before .before .least .ensures in
+    let taken = at-loop-test .loop-test .taken in
+    let many = at-least .least .ensures in
     let some = many .1 .1 (omega (arith, position-below _ _ _ _ _ _ _ _ _ _ _ (l .inv) (some-each (a .bits) (a .highest) (a .level) (a .count) (spotOf (a .come)) f))) (omega (arith, taken)) in
     omega (arith, taken, many .1 .0, some)
 
 loop-again-2 : tie.Need-loop-again-2 Inv-loop μ-loop
 loop-again-2 c =
-    let l = c .before .before .before .before .before .before .before .before .before .before .before .before .before .loop in
-    let start = c .before .before .before .before .before .before .before .before .before .before .before .before .before .before .before .before .before .before in
+    let at-lay = c .before .before .before .before .before .before .before in
+    let at-least = at-lay .before .before .before .before in
+    let at-loop-test = at-least .before in
+    let at-loop = at-loop-test .before in
+    let at-before = at-loop .before .before .before .before in
+    let l = at-loop .loop in
+    let start = at-before .before in
     let a = start .args in
     let f = start .pre .0 in
-    let many = c .before .before .before .before .before .before .before .before .before .before .before .least .ensures in
-    laid-within _ _ _ _ _ _ _ _ _ _ _ (l .inv) (some-each (a .bits) (a .highest) (a .level) (a .count) (spotOf (a .come)) f) (each-small (a .bits) (a .highest) (a .level) (a .count) (spotOf (a .come)) f) (start .pre .1) _ _ _ (many .0) (omega (arith, many .1 .0, c .before .before .before .before .before .before .before .before .before .before .before .before .loop-test .taken)) (c .before .before .before .before .before .before .before .lay .ensures) (c .if1 .left)
+    let many = at-least .least .ensures in
+    laid-within _ _ _ _ _ _ _ _ _ _ _ (l .inv) (some-each (a .bits) (a .highest) (a .level) (a .count) (spotOf (a .come)) f) (each-small (a .bits) (a .highest) (a .level) (a .count) (spotOf (a .come)) f) (start .pre .1) _ _ _ (many .0) (omega (arith, many .1 .0, at-loop-test .loop-test .taken)) (at-lay .lay .ensures) (c .if1 .left)
 
 cast-t17 : tie.Need-cast-t17 Inv-loop μ-loop
 cast-t17 c =

@@ -33,7 +33,10 @@ array-read-if4 : tie.Need-array-read-if4
 array-read-if4 c = search needs
 
 returns-4 : tie.Need-returns-4
-returns-4 c = sym (opens-third (c .before .before .before .before .before .before .before .args .bytes .now) (c .before .before .before .before .before .before .if1 .left) (c .before .before .before .before .if2 .left) (c .before .before .if3 .left) (c .if4 .taken))
+returns-4 c =
+    let at-if1 = c .before .before .before .before .before .before in
+    let start = at-if1 .before in
+    sym (opens-third (start .args .bytes .now) (at-if1 .if1 .left) (c .before .before .before .before .if2 .left) (c .before .before .if3 .left) (c .if4 .taken))
 
 shared-slice-read-result : tie.Need-shared-slice-read-result
 shared-slice-read-result c = search needs
@@ -42,7 +45,10 @@ array-read-result : tie.Need-array-read-result
 array-read-result c = search needs
 
 returns-5 : tie.Need-returns-5
-returns-5 c = sym (opens-last (c .before .before .before .before .before .before .before .before .args .bytes .now) (c .before .before .before .before .before .before .before .if1 .left) (c .before .before .before .before .before .if2 .left) (c .before .before .before .if3 .left) (c .before .if4 .left))
+returns-5 c =
+    let at-if1 = c .before .before .before .before .before .before .before in
+    let start = at-if1 .before in
+    sym (opens-last (start .args .bytes .now) (at-if1 .if1 .left) (c .before .before .before .before .before .if2 .left) (c .before .before .before .if3 .left) (c .before .if4 .left))
 
 pub tagged-spec : {M : Type 1} → statement M
 tagged-spec =

@@ -59,9 +59,10 @@ rem-if3 c =
 
 returns-3 : tie.Need-returns-3
 returns-3 c =
-    let start = c .before .before .before .before in
+    let at-before = c .before .before .before in
+    let start = at-before .before in
     let a = start .args in
-    sym (no-fit (2 ^ (a .bits)) (a .highest) (a .k) (walkAt 0 (a .leaves) 0 (spotOf (a .come)) (a .at)) (found (a .level) (a .counted)) (found (a .count) (a .next)) (c .before .before .before .if1 .left) (c .before .before .if2 .left) (fits-not (2 ^ (a .bits)) (a .highest) (a .level) (a .k) (pow-pos (a .bits)) (start .pre .1 .0) (spotOf (a .come)) (a .count) (c .before .before .before .if1 .left) (rest-some (a .bits) (a .highest) (a .level) (start .pre .0 .narrow) (start .pre .1 .0) (a .come .cell) (c .if3 .taken))))
+    sym (no-fit (2 ^ (a .bits)) (a .highest) (a .k) (walkAt 0 (a .leaves) 0 (spotOf (a .come)) (a .at)) (found (a .level) (a .counted)) (found (a .count) (a .next)) (at-before .if1 .left) (c .before .before .if2 .left) (fits-not (2 ^ (a .bits)) (a .highest) (a .level) (a .k) (pow-pos (a .bits)) (start .pre .1 .0) (spotOf (a .come)) (a .count) (at-before .if1 .left) (rest-some (a .bits) (a .highest) (a .level) (start .pre .0 .narrow) (start .pre .1 .0) (a .come .cell) (c .if3 .taken))))
 
 end-from-requires : tie.Need-end-from-requires
 end-from-requires c κs =
@@ -74,15 +75,17 @@ within-requires c κs = search needs
 
 returns-4 : tie.Need-returns-4
 returns-4 c =
-    let start = c .before .before .before .before .before .before .before in
+    let at-before = c .before .before .before .before .before .before in
+    let start = at-before .before in
     let a = start .args in
-    sym (no-fit (2 ^ (a .bits)) (a .highest) (a .k) (walkAt 0 (a .leaves) 0 (spotOf (a .come)) (a .at)) (found (a .level) (a .counted)) (found (a .count) (a .next)) (c .before .before .before .before .before .before .if1 .left) (c .before .before .before .before .before .if2 .left) (fits-is (2 ^ (a .bits)) (a .highest) (a .level) (a .k) (pow-pos (a .bits)) (start .pre .1 .0) (spotOf (a .come)) (start .pre .0 .proper) (rest-none (a .bits) (a .highest) (a .level) (start .pre .0 .narrow) (start .pre .1 .0) (a .come .cell) (c .before .before .before .if3 .left)) (a .count) (c .before .before .before .before .before .before .if1 .left) ∙ ap (upto (a .k)) (sym (c .before .before .end-from .ensures)) ∙ sym (c .before .within .ensures) ∙ not-true (c .before .within .result) (c .if4 .taken)))
+    sym (no-fit (2 ^ (a .bits)) (a .highest) (a .k) (walkAt 0 (a .leaves) 0 (spotOf (a .come)) (a .at)) (found (a .level) (a .counted)) (found (a .count) (a .next)) (at-before .if1 .left) (c .before .before .before .before .before .if2 .left) (fits-is (2 ^ (a .bits)) (a .highest) (a .level) (a .k) (pow-pos (a .bits)) (start .pre .1 .0) (spotOf (a .come)) (start .pre .0 .proper) (rest-none (a .bits) (a .highest) (a .level) (start .pre .0 .narrow) (start .pre .1 .0) (a .come .cell) (c .before .before .before .if3 .left)) (a .count) (at-before .if1 .left) ∙ ap (upto (a .k)) (sym (c .before .before .end-from .ensures)) ∙ sym (c .before .within .ensures) ∙ not-true (c .before .within .result) (c .if4 .taken)))
 
 returns-5 : tie.Need-returns-5
 returns-5 c =
-    let start = c .before .before .before .before .before .before .before in
+    let at-before = c .before .before .before .before .before .before in
+    let start = at-before .before in
     let a = start .args in
-    sym (run-fits (2 ^ (a .bits)) (a .highest) (a .k) (walkAt 0 (a .leaves) 0 (spotOf (a .come)) (a .at)) (found (a .level) (a .counted)) (found (a .count) (a .next)) (c .before .before .before .before .before .before .if1 .left) (c .before .before .before .before .before .if2 .left) (fits-is (2 ^ (a .bits)) (a .highest) (a .level) (a .k) (pow-pos (a .bits)) (start .pre .1 .0) (spotOf (a .come)) (start .pre .0 .proper) (rest-none (a .bits) (a .highest) (a .level) (start .pre .0 .narrow) (start .pre .1 .0) (a .come .cell) (c .before .before .before .if3 .left)) (a .count) (c .before .before .before .before .before .before .if1 .left) ∙ ap (upto (a .k)) (sym (c .before .before .end-from .ensures)) ∙ sym (c .before .within .ensures) ∙ not-false (c .before .within .result) (c .if4 .left)))
+    sym (run-fits (2 ^ (a .bits)) (a .highest) (a .k) (walkAt 0 (a .leaves) 0 (spotOf (a .come)) (a .at)) (found (a .level) (a .counted)) (found (a .count) (a .next)) (at-before .if1 .left) (c .before .before .before .before .before .if2 .left) (fits-is (2 ^ (a .bits)) (a .highest) (a .level) (a .k) (pow-pos (a .bits)) (start .pre .1 .0) (spotOf (a .come)) (start .pre .0 .proper) (rest-none (a .bits) (a .highest) (a .level) (start .pre .0 .narrow) (start .pre .1 .0) (a .come .cell) (c .before .before .before .if3 .left)) (a .count) (at-before .if1 .left) ∙ ap (upto (a .k)) (sym (c .before .before .end-from .ensures)) ∙ sym (c .before .within .ensures) ∙ not-false (c .before .within .result) (c .if4 .left)))
 
 pub after-count-spec : {M : Type 1} → statement M
 after-count-spec =

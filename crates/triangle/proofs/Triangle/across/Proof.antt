@@ -21,9 +21,13 @@ moved-requires c κs = search needs
 returns : tie.Need-returns
 unfolding triangleTo
 returns c =
-    let k = known 21 (c .before .before .before .before .args .self) (c .before .before .before .before .pre .0) in
-    let row : c .before .before .face-row .result ≡ faceRow (c .before .before .before .before .args .self .kind) (c .before .before .before .before .args .face) = c .before .before .face-row .ensures ∙ ap₂ faceRow (mod-eq-of-lt (k .typed)) (mod-eq-of-lt (c .before .before .before .before .pre .1)) in
-    gone-x (c .before .before .before .before .args .self) (c .before .before .face-row .result) (c .before .before .before .side .result) (c .before .moved .result) _ (c .before .before .before .side .ensures) (c .before .moved .ensures) refl (c .if1 .taken) ∙ ap (acrossBy 21 (c .before .before .before .before .args .self)) row
+    let at-face-row = c .before .before in
+    let at-side = at-face-row .before in
+    let start = at-side .before in
+    let a = start .args in
+    let k = known 21 (a .self) (start .pre .0) in
+    let row : at-face-row .face-row .result ≡ faceRow (a .self .kind) (a .face) = at-face-row .face-row .ensures ∙ ap₂ faceRow (mod-eq-of-lt (k .typed)) (mod-eq-of-lt (start .pre .1)) in
+    gone-x (a .self) (at-face-row .face-row .result) (at-side .side .result) (c .before .moved .result) _ (at-side .side .ensures) (c .before .moved .ensures) refl (c .if1 .taken) ∙ ap (acrossBy 21 (a .self)) row
 
 moved-requires-2 : tie.Need-moved-requires-2
 moved-requires-2 c κs = search needs
@@ -31,9 +35,14 @@ moved-requires-2 c κs = search needs
 returns-2 : tie.Need-returns-2
 unfolding triangleTo
 returns-2 c =
-    let k = known 21 (c .before .before .before .before .before .before .args .self) (c .before .before .before .before .before .before .pre .0) in
-    let row : c .before .before .before .before .face-row .result ≡ faceRow (c .before .before .before .before .before .before .args .self .kind) (c .before .before .before .before .before .before .args .face) = c .before .before .before .before .face-row .ensures ∙ ap₂ faceRow (mod-eq-of-lt (k .typed)) (mod-eq-of-lt (c .before .before .before .before .before .before .pre .1)) in
-    gone-y (c .before .before .before .before .before .before .args .self) (c .before .before .before .before .face-row .result) (c .before .before .before .before .before .side .result) (c .before .before .before .moved .result) (c .before .moved2 .result) (c .before .before .before .before .before .side .ensures) (c .before .before .before .moved .ensures) (c .before .moved2 .ensures) (c .before .before .if1 .left) (c .if2 .taken) ∙ ap (acrossBy 21 (c .before .before .before .before .before .before .args .self)) row
+    let at-moved = c .before .before .before in
+    let at-face-row = at-moved .before in
+    let at-side = at-face-row .before in
+    let start = at-side .before in
+    let a = start .args in
+    let k = known 21 (a .self) (start .pre .0) in
+    let row : at-face-row .face-row .result ≡ faceRow (a .self .kind) (a .face) = at-face-row .face-row .ensures ∙ ap₂ faceRow (mod-eq-of-lt (k .typed)) (mod-eq-of-lt (start .pre .1)) in
+    gone-y (a .self) (at-face-row .face-row .result) (at-side .side .result) (at-moved .moved .result) (c .before .moved2 .result) (at-side .side .ensures) (at-moved .moved .ensures) (c .before .moved2 .ensures) (c .before .before .if1 .left) (c .if2 .taken) ∙ ap (acrossBy 21 (a .self)) row
 
 outside-requires : tie.Need-outside-requires
 outside-requires c κs = search needs
@@ -41,16 +50,28 @@ outside-requires c κs = search needs
 returns-3 : tie.Need-returns-3
 unfolding triangleTo
 returns-3 c =
-    let k = known 21 (c .before .before .before .before .before .before .before .before .args .self) (c .before .before .before .before .before .before .before .before .pre .0) in
-    let row : c .before .before .before .before .before .before .face-row .result ≡ faceRow (c .before .before .before .before .before .before .before .before .args .self .kind) (c .before .before .before .before .before .before .before .before .args .face) = c .before .before .before .before .before .before .face-row .ensures ∙ ap₂ faceRow (mod-eq-of-lt (k .typed)) (mod-eq-of-lt (c .before .before .before .before .before .before .before .before .pre .1)) in
-    beyond (c .before .before .before .before .before .before .before .before .args .self) (c .before .before .before .before .before .before .face-row .result) (c .before .before .before .before .before .before .before .side .result) (c .before .before .before .before .before .moved .result) (c .before .before .before .moved2 .result) (c .before .before .before .before .before .before .before .side .ensures) (c .before .before .before .before .before .moved .ensures) (c .before .before .before .moved2 .ensures) (c .before .before .before .before .if1 .left) (c .before .before .if2 .left) (sym (c .before .outside .ensures) ∙ c .if3 .taken) ∙ ap (acrossBy 21 (c .before .before .before .before .before .before .before .before .args .self)) row
+    let at-moved2 = c .before .before .before in
+    let at-moved = at-moved2 .before .before in
+    let at-face-row = at-moved .before in
+    let at-side = at-face-row .before in
+    let start = at-side .before in
+    let a = start .args in
+    let k = known 21 (a .self) (start .pre .0) in
+    let row : at-face-row .face-row .result ≡ faceRow (a .self .kind) (a .face) = at-face-row .face-row .ensures ∙ ap₂ faceRow (mod-eq-of-lt (k .typed)) (mod-eq-of-lt (start .pre .1)) in
+    beyond (a .self) (at-face-row .face-row .result) (at-side .side .result) (at-moved .moved .result) (at-moved2 .moved2 .result) (at-side .side .ensures) (at-moved .moved .ensures) (at-moved2 .moved2 .ensures) (c .before .before .before .before .if1 .left) (c .before .before .if2 .left) (sym (c .before .outside .ensures) ∙ c .if3 .taken) ∙ ap (acrossBy 21 (a .self)) row
 
 returns-4 : tie.Need-returns-4
 unfolding triangleTo
 returns-4 c =
-    let k = known 21 (c .before .before .before .before .before .before .before .before .args .self) (c .before .before .before .before .before .before .before .before .pre .0) in
-    let row : c .before .before .before .before .before .before .face-row .result ≡ faceRow (c .before .before .before .before .before .before .before .before .args .self .kind) (c .before .before .before .before .before .before .before .before .args .face) = c .before .before .before .before .before .before .face-row .ensures ∙ ap₂ faceRow (mod-eq-of-lt (k .typed)) (mod-eq-of-lt (c .before .before .before .before .before .before .before .before .pre .1)) in
-    within (c .before .before .before .before .before .before .before .before .args .self) (c .before .before .before .before .before .before .face-row .result) (c .before .before .before .before .before .before .before .side .result) (c .before .before .before .before .before .moved .result) (c .before .before .before .moved2 .result) (c .before .before .before .before .before .before .before .side .ensures) (c .before .before .before .before .before .moved .ensures) (c .before .before .before .moved2 .ensures) (c .before .before .before .before .if1 .left) (c .before .before .if2 .left) (sym (c .before .outside .ensures) ∙ c .if3 .left) ∙ ap (acrossBy 21 (c .before .before .before .before .before .before .before .before .args .self)) row
+    let at-moved2 = c .before .before .before in
+    let at-moved = at-moved2 .before .before in
+    let at-face-row = at-moved .before in
+    let at-side = at-face-row .before in
+    let start = at-side .before in
+    let a = start .args in
+    let k = known 21 (a .self) (start .pre .0) in
+    let row : at-face-row .face-row .result ≡ faceRow (a .self .kind) (a .face) = at-face-row .face-row .ensures ∙ ap₂ faceRow (mod-eq-of-lt (k .typed)) (mod-eq-of-lt (start .pre .1)) in
+    within (a .self) (at-face-row .face-row .result) (at-side .side .result) (at-moved .moved .result) (at-moved2 .moved2 .result) (at-side .side .ensures) (at-moved .moved .ensures) (at-moved2 .moved2 .ensures) (c .before .before .before .before .if1 .left) (c .before .before .if2 .left) (sym (c .before .outside .ensures) ∙ c .if3 .left) ∙ ap (acrossBy 21 (a .self)) row
 
 pub across-spec : {M : Type 1} → statement M
 across-spec =

@@ -24,7 +24,10 @@ shl-if2 c = search needs
 
 returns-2 : tie.Need-returns-2
 unfolding triangleTo
-returns-2 c = sym (at-refused-5 triangle (c .before .before .args .level) (c .before .before .args .position) (c .before .if1 .left) (rw (shifted-power 2 (c .before .before .args .level) (omega arith)) at (c .if2 .taken)))
+returns-2 c =
+    let start = c .before .before in
+    let a = start .args in
+    sym (at-refused-5 triangle (a .level) (a .position) (c .before .if1 .left) (rw (shifted-power 2 (a .level) (omega arith)) at (c .if2 .taken)))
 
 placed-requires : tie.Need-placed-requires
 unfolding triangleTo
@@ -32,7 +35,10 @@ placed-requires c κs = (c .before .if1 .left, rw (shifted-power 2 (c .before .b
 
 returns-3 : tie.Need-returns-3
 unfolding triangleTo
-returns-3 c = ap accepted (c .placed .ensures) ∙ sym (at-accepted triangle (c .before .before .before .args .level) (c .before .before .before .args .position) (c .before .before .if1 .left) (rw (shifted-power 2 (c .before .before .before .args .level) (omega arith)) at (c .before .if2 .left)))
+returns-3 c =
+    let start = c .before .before .before in
+    let a = start .args in
+    ap accepted (c .placed .ensures) ∙ sym (at-accepted triangle (a .level) (a .position) (c .before .before .if1 .left) (rw (shifted-power 2 (a .level) (omega arith)) at (c .before .if2 .left)))
 
 pub at-spec : {M : Type 1} → statement M
 at-spec = tie.close (tie.spec returns mul-if2 cast-if2 shl-if2 returns-2 placed-requires returns-3)

@@ -23,22 +23,28 @@ sub-d c = omega (arith, side-le 21 (c .before .before .args .self .level) (c .be
 add-t4 : tie.Need-add-t4
 unfolding triangleTo
 add-t4 c =
-    let k = known 21 (c .before .before .before .args .self) (c .before .before .before .pre .0) in
-    omega (arith, end-inside 21 (c .before .before .before .args .self .level) (c .before .before .before .args .self .x) (k .shallow) (k .grid-x), c .before .before .side .ensures)
+    let start = c .before .before .before in
+    let a = start .args in
+    let k = known 21 (a .self) (start .pre .0) in
+    omega (arith, end-inside 21 (a .self .level) (a .self .x) (k .shallow) (k .grid-x), c .before .before .side .ensures)
 
 add-t5 : tie.Need-add-t5
 unfolding triangleTo
 add-t5 c =
-    let k = known 21 (c .before .before .before .before .args .self) (c .before .before .before .before .pre .0) in
-    omega (arith, end-inside 21 (c .before .before .before .before .args .self .level) (c .before .before .before .before .args .self .y) (k .shallow) (k .grid-y), c .before .before .before .side .ensures)
+    let start = c .before .before .before .before in
+    let a = start .args in
+    let k = known 21 (a .self) (start .pre .0) in
+    omega (arith, end-inside 21 (a .self .level) (a .self .y) (k .shallow) (k .grid-y), c .before .before .before .side .ensures)
 
 returns : tie.Need-returns
 unfolding triangleTo
 returns c =
-    let k = known 21 (c .before .before .before .before .args .self) (c .before .before .before .before .pre .0) in
+    let start = c .before .before .before .before in
+    let a = start .args in
+    let k = known 21 (a .self) (start .pre .0) in
     let gap = ap₂ (λ (m n : ℕ). m - n) (c .before .before .before .side .ensures) (c .before .before .side2 .ensures) in
-    triangle-path _ _ (ap (λ (m : ℕ). c .before .before .before .before .args .self .x + m) gap) (ap (λ (m : ℕ). c .before .before .before .before .args .self .y + m) gap) refl refl
-    ∙ sym (last-closed 21 (c .before .before .before .before .args .self) (c .before .before .before .before .args .level) (k .typed) (c .before .before .before .before .pre .1 .0) (c .before .before .before .before .pre .1 .1))
+    triangle-path _ _ (ap (λ (m : ℕ). a .self .x + m) gap) (ap (λ (m : ℕ). a .self .y + m) gap) refl refl
+    ∙ sym (last-closed 21 (a .self) (a .level) (k .typed) (start .pre .1 .0) (start .pre .1 .1))
 
 pub bottom-spec : {M : Type 1} → statement M
 bottom-spec = tie.close (tie.spec side-requires side-requires-2 sub-d add-t4 add-t5 returns)

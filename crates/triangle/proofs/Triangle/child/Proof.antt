@@ -16,11 +16,15 @@ returns c = faulty triangle (c .before .fault .result) (c .before .before .args 
 
 returns-2 : tie.Need-returns-2
 unfolding triangleTo
-returns-2 c = sym (child-refused-7 triangle (c .before .before .before .before .args .self) (sym (c .before .before .before .fault .ensures) ∙ c .before .before .if1 .left) (c .before .before .before .before .args .number) (c .if2 .taken))
+returns-2 c =
+    let start = c .before .before .before .before in
+    sym (child-refused-7 triangle (start .args .self) (sym (c .before .before .before .fault .ensures) ∙ c .before .before .if1 .left) (start .args .number) (c .if2 .taken))
 
 returns-3 : tie.Need-returns-3
 unfolding triangleTo
-returns-3 c = sym (child-refused-8 triangle (c .before .before .before .before .before .args .self) (sym (c .before .before .before .before .fault .ensures) ∙ c .before .before .before .if1 .left) (c .before .before .before .before .before .args .number) (c .before .if2 .left) (c .if3 .taken))
+returns-3 c =
+    let start = c .before .before .before .before .before in
+    sym (child-refused-8 triangle (start .args .self) (sym (c .before .before .before .before .fault .ensures) ∙ c .before .before .before .if1 .left) (start .args .number) (c .before .if2 .left) (c .if3 .taken))
 
 down-requires : tie.Need-down-requires
 unfolding triangleTo
@@ -28,7 +32,9 @@ down-requires c κs = ((sym (c .before .before .before .before .fault .ensures) 
 
 returns-4 : tie.Need-returns-4
 unfolding triangleTo
-returns-4 c = ap accepted (c .down .ensures) ∙ sym (child-accepted triangle (c .before .before .before .before .before .before .args .self) (sym (c .before .before .before .before .before .fault .ensures) ∙ c .before .before .before .before .if1 .left) (c .before .before .before .before .before .before .args .number) (c .before .before .if2 .left) (c .before .if3 .left))
+returns-4 c =
+    let start = c .before .before .before .before .before .before in
+    ap accepted (c .down .ensures) ∙ sym (child-accepted triangle (start .args .self) (sym (c .before .before .before .before .before .fault .ensures) ∙ c .before .before .before .before .if1 .left) (start .args .number) (c .before .before .if2 .left) (c .before .if3 .left))
 
 pub child-spec : {M : Type 1} → statement M
 child-spec =

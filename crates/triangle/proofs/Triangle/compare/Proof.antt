@@ -21,7 +21,9 @@ fault-requires-2 c κs = search needs
 
 returns-2 : tie.Need-returns-2
 unfolding triangleTo
-returns-2 c = order-second triangle (c .before .fault2 .result) (c .before .before .before .before .args .self) (c .before .before .before .before .args .other) (sym (c .before .before .before .fault .ensures) ∙ c .before .before .if1 .left) (c .before .fault2 .ensures) (c .if2 .taken)
+returns-2 c =
+    let start = c .before .before .before .before in
+    order-second triangle (c .before .fault2 .result) (start .args .self) (start .args .other) (sym (c .before .before .before .fault .ensures) ∙ c .before .before .if1 .left) (c .before .fault2 .ensures) (c .if2 .taken)
 
 start-requires : tie.Need-start-requires
 unfolding triangleTo
@@ -37,9 +39,12 @@ order-requires c κs = search needs
 returns-3 : tie.Need-returns-3
 unfolding triangleTo order
 returns-3 c =
+    let at-fault = c .before .before .before .before .before .before in
+    let start-7 = at-fault .before in
+    let a = start-7 .args in
     c .order .ensures
-    ∙ ap₂ (λ (p q : ℕ). accepted (compared p q (compared (c .before .before .before .before .before .before .before .args .self .level) (c .before .before .before .before .before .before .before .args .other .level) same))) (c .before .before .start .ensures) (c .before .start2 .ensures)
-    ∙ sym (order-accepted triangle (c .before .before .before .before .before .before .before .args .self) (c .before .before .before .before .before .before .before .args .other) (sym (c .before .before .before .before .before .before .fault .ensures) ∙ c .before .before .before .before .before .if1 .left) (sym (c .before .before .before .before .fault2 .ensures) ∙ c .before .before .before .if2 .left))
+    ∙ ap₂ (λ (p q : ℕ). accepted (compared p q (compared (a .self .level) (a .other .level) same))) (c .before .before .start .ensures) (c .before .start2 .ensures)
+    ∙ sym (order-accepted triangle (a .self) (a .other) (sym (at-fault .fault .ensures) ∙ c .before .before .before .before .before .if1 .left) (sym (c .before .before .before .before .fault2 .ensures) ∙ c .before .before .before .if2 .left))
 
 pub compare-spec : {M : Type 1} → statement M
 compare-spec =

@@ -30,22 +30,30 @@ cast-t6 c = search needs
 mul-t7 : tie.Need-mul-t7
 unfolding triangleTo
 mul-t7 c =
-    let k = known 21 (c .before .before .before .before .args .self) (c .before .before .before .before .pre .0) in
-    let h : c .before .before .side .result ≡ side 21 (suc (c .before .before .before .before .args .self .level)) = c .before .before .side .ensures ∙ ap (side 21) (add-one (c .before .before .before .before .args .self .level)) in
-    let row : c .before .child-row .result ≡ childRow (c .before .before .before .before .args .self .kind) (c .before .before .before .before .args .number) = c .before .child-row .ensures ∙ ap₂ childRow (mod-eq-of-lt (k .typed)) (mod-eq-of-lt (c .before .before .before .before .pre .1 .1)) in
-    let small = childRow-small (c .before .before .before .before .args .self .kind) (c .before .before .before .before .args .number) (k .typed) (c .before .before .before .before .pre .1 .1) in
-    let part : c .before .child-row .result .x * c .before .before .side .result ≤ 1 * c .before .before .side .result = mul-le-mul-right (c .before .before .side .result) (rw row (omega (arith, small .0))) in
-    omega (arith, end-inside 21 (c .before .before .before .before .args .self .level) (c .before .before .before .before .args .self .x) (k .shallow) (k .grid-x), side-suc 21 (c .before .before .before .before .args .self .level) (c .before .before .before .before .pre .1 .0))
+    let at-child-row = c .before in
+    let at-side = at-child-row .before in
+    let start = at-side .before .before in
+    let a = start .args in
+    let k = known 21 (a .self) (start .pre .0) in
+    let h : at-side .side .result ≡ side 21 (suc (a .self .level)) = at-side .side .ensures ∙ ap (side 21) (add-one (a .self .level)) in
+    let row : at-child-row .child-row .result ≡ childRow (a .self .kind) (a .number) = at-child-row .child-row .ensures ∙ ap₂ childRow (mod-eq-of-lt (k .typed)) (mod-eq-of-lt (start .pre .1 .1)) in
+    let small = childRow-small (a .self .kind) (a .number) (k .typed) (start .pre .1 .1) in
+    let part : at-child-row .child-row .result .x * at-side .side .result ≤ 1 * at-side .side .result = mul-le-mul-right (at-side .side .result) (rw row (omega (arith, small .0))) in
+    omega (arith, end-inside 21 (a .self .level) (a .self .x) (k .shallow) (k .grid-x), side-suc 21 (a .self .level) (start .pre .1 .0))
 
 add-t8 : tie.Need-add-t8
 unfolding triangleTo
 add-t8 c =
-    let k = known 21 (c .before .before .before .before .before .args .self) (c .before .before .before .before .before .pre .0) in
-    let h : c .before .before .before .side .result ≡ side 21 (suc (c .before .before .before .before .before .args .self .level)) = c .before .before .before .side .ensures ∙ ap (side 21) (add-one (c .before .before .before .before .before .args .self .level)) in
-    let row : c .before .before .child-row .result ≡ childRow (c .before .before .before .before .before .args .self .kind) (c .before .before .before .before .before .args .number) = c .before .before .child-row .ensures ∙ ap₂ childRow (mod-eq-of-lt (k .typed)) (mod-eq-of-lt (c .before .before .before .before .before .pre .1 .1)) in
-    let small = childRow-small (c .before .before .before .before .before .args .self .kind) (c .before .before .before .before .before .args .number) (k .typed) (c .before .before .before .before .before .pre .1 .1) in
-    let part : c .before .before .child-row .result .x * c .before .before .before .side .result ≤ 1 * c .before .before .before .side .result = mul-le-mul-right (c .before .before .before .side .result) (rw row (omega (arith, small .0))) in
-    omega (arith, end-inside 21 (c .before .before .before .before .before .args .self .level) (c .before .before .before .before .before .args .self .x) (k .shallow) (k .grid-x), side-suc 21 (c .before .before .before .before .before .args .self .level) (c .before .before .before .before .before .pre .1 .0))
+    let at-child-row = c .before .before in
+    let at-side = at-child-row .before in
+    let start = at-side .before .before in
+    let a = start .args in
+    let k = known 21 (a .self) (start .pre .0) in
+    let h : at-side .side .result ≡ side 21 (suc (a .self .level)) = at-side .side .ensures ∙ ap (side 21) (add-one (a .self .level)) in
+    let row : at-child-row .child-row .result ≡ childRow (a .self .kind) (a .number) = at-child-row .child-row .ensures ∙ ap₂ childRow (mod-eq-of-lt (k .typed)) (mod-eq-of-lt (start .pre .1 .1)) in
+    let small = childRow-small (a .self .kind) (a .number) (k .typed) (start .pre .1 .1) in
+    let part : at-child-row .child-row .result .x * at-side .side .result ≤ 1 * at-side .side .result = mul-le-mul-right (at-side .side .result) (rw row (omega (arith, small .0))) in
+    omega (arith, end-inside 21 (a .self .level) (a .self .x) (k .shallow) (k .grid-x), side-suc 21 (a .self .level) (start .pre .1 .0))
 
 cast-t9 : tie.Need-cast-t9
 cast-t9 c = search needs
@@ -53,34 +61,46 @@ cast-t9 c = search needs
 mul-t10 : tie.Need-mul-t10
 unfolding triangleTo
 mul-t10 c =
-    let k = known 21 (c .before .before .before .before .before .before .args .self) (c .before .before .before .before .before .before .pre .0) in
-    let h : c .before .before .before .before .side .result ≡ side 21 (suc (c .before .before .before .before .before .before .args .self .level)) = c .before .before .before .before .side .ensures ∙ ap (side 21) (add-one (c .before .before .before .before .before .before .args .self .level)) in
-    let row : c .before .before .before .child-row .result ≡ childRow (c .before .before .before .before .before .before .args .self .kind) (c .before .before .before .before .before .before .args .number) = c .before .before .before .child-row .ensures ∙ ap₂ childRow (mod-eq-of-lt (k .typed)) (mod-eq-of-lt (c .before .before .before .before .before .before .pre .1 .1)) in
-    let small = childRow-small (c .before .before .before .before .before .before .args .self .kind) (c .before .before .before .before .before .before .args .number) (k .typed) (c .before .before .before .before .before .before .pre .1 .1) in
-    let part : c .before .before .before .child-row .result .y * c .before .before .before .before .side .result ≤ 1 * c .before .before .before .before .side .result = mul-le-mul-right (c .before .before .before .before .side .result) (rw row (omega (arith, small .1 .0))) in
-    omega (arith, end-inside 21 (c .before .before .before .before .before .before .args .self .level) (c .before .before .before .before .before .before .args .self .y) (k .shallow) (k .grid-y), side-suc 21 (c .before .before .before .before .before .before .args .self .level) (c .before .before .before .before .before .before .pre .1 .0))
+    let at-child-row = c .before .before .before in
+    let at-side = at-child-row .before in
+    let start = at-side .before .before in
+    let a = start .args in
+    let k = known 21 (a .self) (start .pre .0) in
+    let h : at-side .side .result ≡ side 21 (suc (a .self .level)) = at-side .side .ensures ∙ ap (side 21) (add-one (a .self .level)) in
+    let row : at-child-row .child-row .result ≡ childRow (a .self .kind) (a .number) = at-child-row .child-row .ensures ∙ ap₂ childRow (mod-eq-of-lt (k .typed)) (mod-eq-of-lt (start .pre .1 .1)) in
+    let small = childRow-small (a .self .kind) (a .number) (k .typed) (start .pre .1 .1) in
+    let part : at-child-row .child-row .result .y * at-side .side .result ≤ 1 * at-side .side .result = mul-le-mul-right (at-side .side .result) (rw row (omega (arith, small .1 .0))) in
+    omega (arith, end-inside 21 (a .self .level) (a .self .y) (k .shallow) (k .grid-y), side-suc 21 (a .self .level) (start .pre .1 .0))
 
 add-t11 : tie.Need-add-t11
 unfolding triangleTo
 add-t11 c =
-    let k = known 21 (c .before .before .before .before .before .before .before .args .self) (c .before .before .before .before .before .before .before .pre .0) in
-    let h : c .before .before .before .before .before .side .result ≡ side 21 (suc (c .before .before .before .before .before .before .before .args .self .level)) = c .before .before .before .before .before .side .ensures ∙ ap (side 21) (add-one (c .before .before .before .before .before .before .before .args .self .level)) in
-    let row : c .before .before .before .before .child-row .result ≡ childRow (c .before .before .before .before .before .before .before .args .self .kind) (c .before .before .before .before .before .before .before .args .number) = c .before .before .before .before .child-row .ensures ∙ ap₂ childRow (mod-eq-of-lt (k .typed)) (mod-eq-of-lt (c .before .before .before .before .before .before .before .pre .1 .1)) in
-    let small = childRow-small (c .before .before .before .before .before .before .before .args .self .kind) (c .before .before .before .before .before .before .before .args .number) (k .typed) (c .before .before .before .before .before .before .before .pre .1 .1) in
-    let part : c .before .before .before .before .child-row .result .y * c .before .before .before .before .before .side .result ≤ 1 * c .before .before .before .before .before .side .result = mul-le-mul-right (c .before .before .before .before .before .side .result) (rw row (omega (arith, small .1 .0))) in
-    omega (arith, end-inside 21 (c .before .before .before .before .before .before .before .args .self .level) (c .before .before .before .before .before .before .before .args .self .y) (k .shallow) (k .grid-y), side-suc 21 (c .before .before .before .before .before .before .before .args .self .level) (c .before .before .before .before .before .before .before .pre .1 .0))
+    let at-child-row = c .before .before .before .before in
+    let at-side = at-child-row .before in
+    let start = at-side .before .before in
+    let a = start .args in
+    let k = known 21 (a .self) (start .pre .0) in
+    let h : at-side .side .result ≡ side 21 (suc (a .self .level)) = at-side .side .ensures ∙ ap (side 21) (add-one (a .self .level)) in
+    let row : at-child-row .child-row .result ≡ childRow (a .self .kind) (a .number) = at-child-row .child-row .ensures ∙ ap₂ childRow (mod-eq-of-lt (k .typed)) (mod-eq-of-lt (start .pre .1 .1)) in
+    let small = childRow-small (a .self .kind) (a .number) (k .typed) (start .pre .1 .1) in
+    let part : at-child-row .child-row .result .y * at-side .side .result ≤ 1 * at-side .side .result = mul-le-mul-right (at-side .side .result) (rw row (omega (arith, small .1 .0))) in
+    omega (arith, end-inside 21 (a .self .level) (a .self .y) (k .shallow) (k .grid-y), side-suc 21 (a .self .level) (start .pre .1 .0))
 
 returns : tie.Need-returns
 unfolding triangleTo
 returns c =
-    let k = known 21 (c .before .before .before .before .before .before .before .args .self) (c .before .before .before .before .before .before .before .pre .0) in
-    let h : c .before .before .before .before .before .side .result ≡ side 21 (suc (c .before .before .before .before .before .before .before .args .self .level)) = c .before .before .before .before .before .side .ensures ∙ ap (side 21) (add-one (c .before .before .before .before .before .before .before .args .self .level)) in
-    let row : c .before .before .before .before .child-row .result ≡ childRow (c .before .before .before .before .before .before .before .args .self .kind) (c .before .before .before .before .before .before .before .args .number) = c .before .before .before .before .child-row .ensures ∙ ap₂ childRow (mod-eq-of-lt (k .typed)) (mod-eq-of-lt (c .before .before .before .before .before .before .before .pre .1 .1)) in
-    let small = childRow-small (c .before .before .before .before .before .before .before .args .self .kind) (c .before .before .before .before .before .before .before .args .number) (k .typed) (c .before .before .before .before .before .before .before .pre .1 .1) in
+    let at-child-row = c .before .before .before .before in
+    let at-side = at-child-row .before in
+    let start = at-side .before .before in
+    let a = start .args in
+    let k = known 21 (a .self) (start .pre .0) in
+    let h : at-side .side .result ≡ side 21 (suc (a .self .level)) = at-side .side .ensures ∙ ap (side 21) (add-one (a .self .level)) in
+    let row : at-child-row .child-row .result ≡ childRow (a .self .kind) (a .number) = at-child-row .child-row .ensures ∙ ap₂ childRow (mod-eq-of-lt (k .typed)) (mod-eq-of-lt (start .pre .1 .1)) in
+    let small = childRow-small (a .self .kind) (a .number) (k .typed) (start .pre .1 .1) in
     triangle-path _ _
-    (ap₂ (λ (s : Step) (m : ℕ). c .before .before .before .before .before .before .before .args .self .x + s .x * m) row h)
-    (ap₂ (λ (s : Step) (m : ℕ). c .before .before .before .before .before .before .before .args .self .y + s .y * m) row h)
-    (add-one (c .before .before .before .before .before .before .before .args .self .level))
+    (ap₂ (λ (s : Step) (m : ℕ). a .self .x + s .x * m) row h)
+    (ap₂ (λ (s : Step) (m : ℕ). a .self .y + s .y * m) row h)
+    (add-one (a .self .level))
     (ap (λ (s : Step). s .kind) row)
 
 pub down-spec : {M : Type 1} → statement M

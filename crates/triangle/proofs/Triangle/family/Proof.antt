@@ -18,13 +18,15 @@ returns c =
 
 returns-2 : tie.Need-returns-2
 returns-2 c =
-    let a = c .before .before .before .before .before .before .args in
+    let start = c .before .before .before .before .before .before in
+    let a = start .args in
     let cs = columns (a .xs .now) (a .ys .now) (a .levels .now) (a .kinds .now) in
     sym (family-refused-11 triangle (equalColumns cs) (elements cs) (simp (eq-eqb (length (cs .x)) (length (cs .y)) (c .before .if1 .left), ne-eqb (length (cs .x)) (length (cs .level)) (c .if2 .taken))))
 
 returns-3 : tie.Need-returns-3
 returns-3 c =
-    let a = c .before .before .before .before .before .before .before .args in
+    let start = c .before .before .before .before .before .before .before in
+    let a = start .args in
     let cs = columns (a .xs .now) (a .ys .now) (a .levels .now) (a .kinds .now) in
     sym (family-refused-11 triangle (equalColumns cs) (elements cs) (simp (eq-eqb (length (cs .x)) (length (cs .y)) (c .before .before .if1 .left), eq-eqb (length (cs .x)) (length (cs .level)) (c .before .if2 .left), ne-eqb (length (cs .x)) (length (cs .kind)) (c .if3 .taken))))
 
@@ -33,7 +35,8 @@ first-fault-requires c κs = record { with-y = c .before .before .if1 .left; wit
 
 returns-4 : tie.Need-returns-4
 returns-4 c =
-    let a = c .before .before .before .before .before .before .before .before .before .before .args in
+    let start = c .before .before .before .before .before .before .before .before .before .before in
+    let a = start .args in
     let cs = columns (a .xs .now) (a .ys .now) (a .levels .now) (a .kinds .now) in
     let found = c .before .before .first-fault in
     sym (family-faulty triangle (equalColumns cs) (elements cs) (found .result .number) (found .result .place)
@@ -49,12 +52,14 @@ are-siblings-requires c κs =
 
 returns-5 : tie.Need-returns-5
 returns-5 c =
-    let a = c .before .before .before .before .before .before .before .before .before .before .before .args in
+    let at-if1 = c .before .before .before .before .before .before in
+    let start = at-if1 .before .before .before .before .before in
+    let a = start .args in
     let cs = columns (a .xs .now) (a .ys .now) (a .levels .now) (a .kinds .now) in
     let found = c .before .before .before .first-fault in
     ap accepted (c .are-siblings .ensures)
     ∙ sym (family-accepted triangle (equalColumns cs) (elements cs)
-    (simp (eq-eqb (length (cs .x)) (length (cs .y)) (c .before .before .before .before .before .before .if1 .left), eq-eqb (length (cs .x)) (length (cs .level)) (c .before .before .before .before .before .if2 .left), eq-eqb (length (cs .x)) (length (cs .kind)) (c .before .before .before .before .if3 .left)))
+    (simp (eq-eqb (length (cs .x)) (length (cs .y)) (at-if1 .if1 .left), eq-eqb (length (cs .x)) (length (cs .level)) (c .before .before .before .before .before .if2 .left), eq-eqb (length (cs .x)) (length (cs .kind)) (c .before .before .before .before .if3 .left)))
     (sym (found .ensures) ∙ fault-none (found .result .number) (found .result .place) passed (c .before .if4 .left)))
 
 pub family-spec : {M : Type 1} → statement M

@@ -17,11 +17,15 @@ returns c = faulty triangle (c .before .fault .result) (c .before .before .args 
 
 returns-2 : tie.Need-returns-2
 unfolding triangleTo
-returns-2 c = sym (descendant-refused-1 triangle (c .before .before .before .args .self) (sym (c .before .before .fault .ensures) ∙ c .before .if1 .left) (last triangle) (c .before .before .before .args .level) (c .if2 .taken))
+returns-2 c =
+    let start = c .before .before .before in
+    sym (descendant-refused-1 triangle (start .args .self) (sym (c .before .before .fault .ensures) ∙ c .before .if1 .left) (last triangle) (start .args .level) (c .if2 .taken))
 
 returns-3 : tie.Need-returns-3
 unfolding triangleTo
-returns-3 c = sym (descendant-refused-6 triangle (c .before .before .before .before .before .args .self) (sym (c .before .before .before .before .fault .ensures) ∙ c .before .before .before .if1 .left) (last triangle) (c .before .before .before .before .before .args .level) (c .before .before .if2 .left) (c .if3 .taken))
+returns-3 c =
+    let start = c .before .before .before .before .before in
+    sym (descendant-refused-6 triangle (start .args .self) (sym (c .before .before .before .before .fault .ensures) ∙ c .before .before .before .if1 .left) (last triangle) (start .args .level) (c .before .before .if2 .left) (c .if3 .taken))
 
 bottom-requires : tie.Need-bottom-requires
 unfolding triangleTo
@@ -29,7 +33,9 @@ bottom-requires c κs = ((sym (c .before .before .before .before .fault .ensures
 
 returns-4 : tie.Need-returns-4
 unfolding triangleTo
-returns-4 c = ap accepted (c .bottom .ensures) ∙ sym (descendant-accepted triangle (c .before .before .before .before .before .before .args .self) (sym (c .before .before .before .before .before .fault .ensures) ∙ c .before .before .before .before .if1 .left) (last triangle) (c .before .before .before .before .before .before .args .level) (c .before .before .before .if2 .left) (c .before .if3 .left))
+returns-4 c =
+    let start = c .before .before .before .before .before .before in
+    ap accepted (c .bottom .ensures) ∙ sym (descendant-accepted triangle (start .args .self) (sym (c .before .before .before .before .before .fault .ensures) ∙ c .before .before .before .before .if1 .left) (last triangle) (start .args .level) (c .before .before .before .if2 .left) (c .before .if3 .left))
 
 pub last-descendant-spec : {M : Type 1} → statement M
 last-descendant-spec =

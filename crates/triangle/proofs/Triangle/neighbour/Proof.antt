@@ -15,7 +15,9 @@ returns c = faulty triangle (c .before .fault .result) (c .before .before .args 
 
 returns-2 : tie.Need-returns-2
 unfolding triangleTo
-returns-2 c = sym (neighbour-refused-8 triangle (c .before .before .before .args .self) (sym (c .before .before .fault .ensures) ∙ c .before .if1 .left) (c .before .before .before .args .face) (c .if2 .taken))
+returns-2 c =
+    let start = c .before .before .before in
+    sym (neighbour-refused-8 triangle (start .args .self) (sym (c .before .before .fault .ensures) ∙ c .before .if1 .left) (start .args .face) (c .if2 .taken))
 
 across-requires : tie.Need-across-requires
 unfolding triangleTo
@@ -23,7 +25,9 @@ across-requires c κs = ((sym (c .before .before .fault .ensures) ∙ c .before 
 
 returns-3 : tie.Need-returns-3
 unfolding triangleTo
-returns-3 c = c .across .ensures ∙ sym (neighbour-across triangle (c .before .before .before .before .args .self) (sym (c .before .before .before .fault .ensures) ∙ c .before .before .if1 .left) (c .before .before .before .before .args .face) (c .before .if2 .left))
+returns-3 c =
+    let start = c .before .before .before .before in
+    c .across .ensures ∙ sym (neighbour-across triangle (start .args .self) (sym (c .before .before .before .fault .ensures) ∙ c .before .before .if1 .left) (start .args .face) (c .before .if2 .left))
 
 pub neighbour-spec : {M : Type 1} → statement M
 neighbour-spec = tie.close (tie.spec fault-requires returns returns-2 across-requires returns-3)

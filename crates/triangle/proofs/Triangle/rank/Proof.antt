@@ -41,7 +41,10 @@ shr-y c = omega (arith, known 21 (c .before .before .args .self) (c .before .bef
 
 loop-holds : tie.Need-loop-holds Inv-loop μ-loop
 unfolding triangleTo
-loop-holds c = climb-start (c .before .before .args .self .level) (c .before .before .args .self .x / side 21 (c .before .before .args .self .level)) (c .before .before .args .self .y / side 21 (c .before .before .args .self .level)) (c .before .before .args .self .kind) (known 21 (c .before .before .args .self) (c .before .before .pre) .typed)
+loop-holds c =
+    let start = c .before .before in
+    let a = start .args in
+    climb-start (a .self .level) (a .self .x / side 21 (a .self .level)) (a .self .y / side 21 (a .self .level)) (a .self .kind) (known 21 (a .self) (start .pre) .typed)
 
 slot-of-requires : tie.Need-slot-of-requires Inv-loop μ-loop
 unfolding triangleTo
@@ -50,8 +53,11 @@ slot-of-requires c κs = tt
 cast-sum : tie.Need-cast-sum Inv-loop μ-loop
 unfolding triangleTo
 cast-sum c =
-    let shallow = known 21 (c .before .before .before .before .before .before .args .self) (c .before .before .before .before .before .before .pre) .shallow in
-    let digit = climb-digit (positionAt triangle (c .before .before .before .before .before .before .args .self .level) (unit 21 (c .before .before .before .before .before .before .args .self .level) (c .before .before .before .before .before .before .args .self .x / side 21 (c .before .before .before .before .before .before .args .self .level)) (c .before .before .before .before .before .before .args .self .y / side 21 (c .before .before .before .before .before .before .args .self .level)) (c .before .before .before .before .before .before .args .self .kind))) (c .before .before .before .before .before .before .args .self .level) (c .before .before .before .loop .sum) (c .before .before .before .loop .i) (c .before .before .before .loop .x) (c .before .before .before .loop .y) (c .before .before .before .loop .kind) (c .before .before .before .loop .inv) (known 21 (c .before .before .before .before .before .before .args .self) (c .before .before .before .before .before .before .pre) .shallow) (c .before .slot-of .result) (c .before .slot-of .ensures) in
+    let at-loop = c .before .before .before in
+    let start = at-loop .before .before .before in
+    let a = start .args in
+    let shallow = known 21 (a .self) (start .pre) .shallow in
+    let digit = climb-digit (positionAt triangle (a .self .level) (unit 21 (a .self .level) (a .self .x / side 21 (a .self .level)) (a .self .y / side 21 (a .self .level)) (a .self .kind))) (a .self .level) (at-loop .loop .sum) (at-loop .loop .i) (at-loop .loop .x) (at-loop .loop .y) (at-loop .loop .kind) (at-loop .loop .inv) (known 21 (a .self) (start .pre) .shallow) (c .before .slot-of .result) (c .before .slot-of .ensures) in
     omega arith
 
 mul-sum : tie.Need-mul-sum Inv-loop μ-loop
@@ -69,11 +75,15 @@ shl-sum c = omega (arith, known 21 (c .before .before .before .before .before .b
 add-sum : tie.Need-add-sum Inv-loop μ-loop
 unfolding triangleTo
 add-sum c =
-    let shallow = known 21 (c .before .before .before .before .before .before .args .self) (c .before .before .before .before .before .before .pre) .shallow in
-    let digit = climb-digit (positionAt triangle (c .before .before .before .before .before .before .args .self .level) (unit 21 (c .before .before .before .before .before .before .args .self .level) (c .before .before .before .before .before .before .args .self .x / side 21 (c .before .before .before .before .before .before .args .self .level)) (c .before .before .before .before .before .before .args .self .y / side 21 (c .before .before .before .before .before .before .args .self .level)) (c .before .before .before .before .before .before .args .self .kind))) (c .before .before .before .before .before .before .args .self .level) (c .before .before .before .loop .sum) (c .before .before .before .loop .i) (c .before .before .before .loop .x) (c .before .before .before .loop .y) (c .before .before .before .loop .kind) (c .before .before .before .loop .inv) (known 21 (c .before .before .before .before .before .before .args .self) (c .before .before .before .before .before .before .pre) .shallow) (c .before .slot-of .result) (c .before .slot-of .ensures) in
-    let shifted = digit-shifted 2 (c .before .slot-of .result .number) (c .before .before .before .loop .i) digit (omega arith) in
-    let sum = sum-below 2 (c .before .before .before .loop .sum) (c .before .slot-of .result .number) (c .before .before .before .loop .i) (c .before .before .before .loop .inv .low) digit in
-    let fits : 2 ^ (2 * suc (c .before .before .before .loop .i)) ≤ 2 ^ 63 = pow-mono {i = 2 * suc (c .before .before .before .loop .i)} {j = 63} (omega arith) in
+    let at-slot-of = c .before in
+    let at-loop = at-slot-of .before .before in
+    let start = at-loop .before .before .before in
+    let a = start .args in
+    let shallow = known 21 (a .self) (start .pre) .shallow in
+    let digit = climb-digit (positionAt triangle (a .self .level) (unit 21 (a .self .level) (a .self .x / side 21 (a .self .level)) (a .self .y / side 21 (a .self .level)) (a .self .kind))) (a .self .level) (at-loop .loop .sum) (at-loop .loop .i) (at-loop .loop .x) (at-loop .loop .y) (at-loop .loop .kind) (at-loop .loop .inv) (known 21 (a .self) (start .pre) .shallow) (at-slot-of .slot-of .result) (at-slot-of .slot-of .ensures) in
+    let shifted = digit-shifted 2 (at-slot-of .slot-of .result .number) (at-loop .loop .i) digit (omega arith) in
+    let sum = sum-below 2 (at-loop .loop .sum) (at-slot-of .slot-of .result .number) (at-loop .loop .i) (at-loop .loop .inv .low) digit in
+    let fits : 2 ^ (2 * suc (at-loop .loop .i)) ≤ 2 ^ 63 = pow-mono {i = 2 * suc (at-loop .loop .i)} {j = 63} (omega arith) in
     omega arith
 
 add-i : tie.Need-add-i Inv-loop μ-loop
@@ -87,15 +97,22 @@ loop-less c = omega arith
 loop-again : tie.Need-loop-again Inv-loop μ-loop
 unfolding triangleTo
 loop-again c =
-    let shallow = known 21 (c .before .before .before .before .before .before .args .self) (c .before .before .before .before .before .before .pre) .shallow in
-    let digit = climb-digit (positionAt triangle (c .before .before .before .before .before .before .args .self .level) (unit 21 (c .before .before .before .before .before .before .args .self .level) (c .before .before .before .before .before .before .args .self .x / side 21 (c .before .before .before .before .before .before .args .self .level)) (c .before .before .before .before .before .before .args .self .y / side 21 (c .before .before .before .before .before .before .args .self .level)) (c .before .before .before .before .before .before .args .self .kind))) (c .before .before .before .before .before .before .args .self .level) (c .before .before .before .loop .sum) (c .before .before .before .loop .i) (c .before .before .before .loop .x) (c .before .before .before .loop .y) (c .before .before .before .loop .kind) (c .before .before .before .loop .inv) (known 21 (c .before .before .before .before .before .before .args .self) (c .before .before .before .before .before .before .pre) .shallow) (c .before .slot-of .result) (c .before .slot-of .ensures) in
-    let shifted = digit-shifted 2 (c .before .slot-of .result .number) (c .before .before .before .loop .i) digit (omega arith) in
-    subst⁻¹ (λ (m : ℕ). Climbed (positionAt triangle (c .before .before .before .before .before .before .args .self .level) (unit 21 (c .before .before .before .before .before .before .args .self .level) (c .before .before .before .before .before .before .args .self .x / side 21 (c .before .before .before .before .before .before .args .self .level)) (c .before .before .before .before .before .before .args .self .y / side 21 (c .before .before .before .before .before .before .args .self .level)) (c .before .before .before .before .before .before .args .self .kind))) (c .before .before .before .before .before .before .args .self .level) (c .before .before .before .loop .sum + m) (c .before .before .before .loop .i + 1) (c .before .before .before .loop .x / 2) (c .before .before .before .loop .y / 2) (c .before .slot-of .result .kind)) shifted
-    (climb-again (positionAt triangle (c .before .before .before .before .before .before .args .self .level) (unit 21 (c .before .before .before .before .before .before .args .self .level) (c .before .before .before .before .before .before .args .self .x / side 21 (c .before .before .before .before .before .before .args .self .level)) (c .before .before .before .before .before .before .args .self .y / side 21 (c .before .before .before .before .before .before .args .self .level)) (c .before .before .before .before .before .before .args .self .kind))) (c .before .before .before .before .before .before .args .self .level) (c .before .before .before .loop .sum) (c .before .before .before .loop .i) (c .before .before .before .loop .x) (c .before .before .before .loop .y) (c .before .before .before .loop .kind) (c .before .before .before .loop .inv) (known 21 (c .before .before .before .before .before .before .args .self) (c .before .before .before .before .before .before .pre) .shallow) (c .before .slot-of .result) (c .before .slot-of .ensures) (c .before .before .loop-test .taken))
+    let at-slot-of = c .before in
+    let at-loop = at-slot-of .before .before in
+    let start = at-loop .before .before .before in
+    let a = start .args in
+    let shallow = known 21 (a .self) (start .pre) .shallow in
+    let digit = climb-digit (positionAt triangle (a .self .level) (unit 21 (a .self .level) (a .self .x / side 21 (a .self .level)) (a .self .y / side 21 (a .self .level)) (a .self .kind))) (a .self .level) (at-loop .loop .sum) (at-loop .loop .i) (at-loop .loop .x) (at-loop .loop .y) (at-loop .loop .kind) (at-loop .loop .inv) (known 21 (a .self) (start .pre) .shallow) (at-slot-of .slot-of .result) (at-slot-of .slot-of .ensures) in
+    let shifted = digit-shifted 2 (at-slot-of .slot-of .result .number) (at-loop .loop .i) digit (omega arith) in
+    subst⁻¹ (λ (m : ℕ). Climbed (positionAt triangle (a .self .level) (unit 21 (a .self .level) (a .self .x / side 21 (a .self .level)) (a .self .y / side 21 (a .self .level)) (a .self .kind))) (a .self .level) (at-loop .loop .sum + m) (at-loop .loop .i + 1) (at-loop .loop .x / 2) (at-loop .loop .y / 2) (at-slot-of .slot-of .result .kind)) shifted
+    (climb-again (positionAt triangle (a .self .level) (unit 21 (a .self .level) (a .self .x / side 21 (a .self .level)) (a .self .y / side 21 (a .self .level)) (a .self .kind))) (a .self .level) (at-loop .loop .sum) (at-loop .loop .i) (at-loop .loop .x) (at-loop .loop .y) (at-loop .loop .kind) (at-loop .loop .inv) (known 21 (a .self) (start .pre) .shallow) (at-slot-of .slot-of .result) (at-slot-of .slot-of .ensures) (c .before .before .loop-test .taken))
 
 returns : tie.Need-returns Inv-loop μ-loop
 unfolding triangleTo
-returns c = climb-end (c .before .before .before .before .args .self) (c .before .loop .sum) (c .before .loop .i) (c .before .loop .x) (c .before .loop .y) (c .before .loop .kind) (known 21 (c .before .before .before .before .args .self) (c .before .before .before .before .pre)) (c .before .loop .inv) (c .loop-test .left)
+returns c =
+    let at-loop = c .before in
+    let start = at-loop .before .before .before in
+    climb-end (start .args .self) (at-loop .loop .sum) (at-loop .loop .i) (at-loop .loop .x) (at-loop .loop .y) (at-loop .loop .kind) (known 21 (start .args .self) (start .pre)) (at-loop .loop .inv) (c .loop-test .left)
 
 pub rank-spec : {M : Type 1} → statement M
 rank-spec =

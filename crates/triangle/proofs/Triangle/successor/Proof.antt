@@ -29,9 +29,11 @@ rank-requires c κs = (sym (c .before .fault .ensures) ∙ c .if1 .left)
 add-next : tie.Need-add-next
 unfolding triangleTo
 add-next c =
-    let shallow = known 21 (c .before .before .before .args .self) (sym (c .before .before .fault .ensures) ∙ c .before .if1 .left) .shallow in
-    let last = position-lt triangle (lawful 21) (c .before .before .before .args .self) (sym (c .before .before .fault .ensures) ∙ c .before .if1 .left) in
-    let small : 4 ^ c .before .before .before .args .self .level ≤ 4 ^ 21 = pow-le-pow-right {n = 4} (lit< tt) {i = c .before .before .before .args .self .level} {j = 21} shallow in
+    let start = c .before .before .before in
+    let a = start .args in
+    let shallow = known 21 (a .self) (sym (c .before .before .fault .ensures) ∙ c .before .if1 .left) .shallow in
+    let last = position-lt triangle (lawful 21) (a .self) (sym (c .before .before .fault .ensures) ∙ c .before .if1 .left) in
+    let small : 4 ^ a .self .level ≤ 4 ^ 21 = pow-le-pow-right {n = 4} (lit< tt) {i = a .self .level} {j = 21} shallow in
     omega (arith, c .rank .ensures)
 
 mul-if2 : tie.Need-mul-if2
@@ -55,24 +57,34 @@ shl-if2 c =
 returns-2 : tie.Need-returns-2
 unfolding triangleTo
 returns-2 c =
-    let shallow = known 21 (c .before .before .before .before .args .self) (sym (c .before .before .before .fault .ensures) ∙ c .before .before .if1 .left) .shallow in
-    sym (successor-refused-9 triangle (c .before .before .before .before .args .self) (sym (c .before .before .before .fault .ensures) ∙ c .before .before .if1 .left) (ap (λ (k : ℕ). k + 1) (sym (c .before .rank .ensures)) ∙ c .if2 .taken ∙ shifted-power 2 (c .before .before .before .before .args .self .level) (omega arith)))
+    let at-fault = c .before .before .before in
+    let start = at-fault .before in
+    let a = start .args in
+    let shallow = known 21 (a .self) (sym (at-fault .fault .ensures) ∙ c .before .before .if1 .left) .shallow in
+    sym (successor-refused-9 triangle (a .self) (sym (at-fault .fault .ensures) ∙ c .before .before .if1 .left) (ap (λ (k : ℕ). k + 1) (sym (c .before .rank .ensures)) ∙ c .if2 .taken ∙ shifted-power 2 (a .self .level) (omega arith)))
 
 placed-requires : tie.Need-placed-requires
 unfolding triangleTo
 placed-requires c κs =
-    let shallow = known 21 (c .before .before .before .before .args .self) (sym (c .before .before .before .fault .ensures) ∙ c .before .before .if1 .left) .shallow in
-    let last = position-lt triangle (lawful 21) (c .before .before .before .before .args .self) (sym (c .before .before .before .fault .ensures) ∙ c .before .before .if1 .left) in
-    let small : 4 ^ c .before .before .before .before .args .self .level ≤ 4 ^ 21 = pow-le-pow-right {n = 4} (lit< tt) {i = c .before .before .before .before .args .self .level} {j = 21} shallow in
+    let at-fault = c .before .before .before in
+    let start = at-fault .before in
+    let a = start .args in
+    let shallow = known 21 (a .self) (sym (at-fault .fault .ensures) ∙ c .before .before .if1 .left) .shallow in
+    let last = position-lt triangle (lawful 21) (a .self) (sym (at-fault .fault .ensures) ∙ c .before .before .if1 .left) in
+    let small : 4 ^ a .self .level ≤ 4 ^ 21 = pow-le-pow-right {n = 4} (lit< tt) {i = a .self .level} {j = 21} shallow in
     let other = c .if2 .left in
-    (shallow, omega (arith, c .before .rank .ensures, shifted-power 2 (c .before .before .before .before .args .self .level) (omega arith)))
+    (shallow, omega (arith, c .before .rank .ensures, shifted-power 2 (a .self .level) (omega arith)))
 
 returns-3 : tie.Need-returns-3
 unfolding triangleTo
 returns-3 c =
-    let shallow = known 21 (c .before .before .before .before .before .args .self) (sym (c .before .before .before .before .fault .ensures) ∙ c .before .before .before .if1 .left) .shallow in
-    ap accepted (c .placed .ensures ∙ ap (λ (k : ℕ). elementAt triangle (c .before .before .before .before .before .args .self .level) (k + 1)) (c .before .before .rank .ensures))
-    ∙ sym (successor-accepted triangle (c .before .before .before .before .before .args .self) (sym (c .before .before .before .before .fault .ensures) ∙ c .before .before .before .if1 .left) (λ end. c .before .if2 .left (ap (λ (k : ℕ). k + 1) (c .before .before .rank .ensures) ∙ end ∙ sym (shifted-power 2 (c .before .before .before .before .before .args .self .level) (omega arith)))))
+    let at-if1 = c .before .before .before in
+    let at-fault = at-if1 .before in
+    let start = at-fault .before in
+    let a = start .args in
+    let shallow = known 21 (a .self) (sym (at-fault .fault .ensures) ∙ at-if1 .if1 .left) .shallow in
+    ap accepted (c .placed .ensures ∙ ap (λ (k : ℕ). elementAt triangle (a .self .level) (k + 1)) (c .before .before .rank .ensures))
+    ∙ sym (successor-accepted triangle (a .self) (sym (at-fault .fault .ensures) ∙ at-if1 .if1 .left) (λ end. c .before .if2 .left (ap (λ (k : ℕ). k + 1) (c .before .before .rank .ensures) ∙ end ∙ sym (shifted-power 2 (a .self .level) (omega arith)))))
 
 pub successor-spec : {M : Type 1} → statement M
 successor-spec =

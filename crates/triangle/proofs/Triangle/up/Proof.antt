@@ -33,11 +33,12 @@ rounded-requires-2 c κs = search needs
 returns : tie.Need-returns
 unfolding triangleTo
 returns c =
-    let a = c .before .before .before .before .before .before .args .self in
+    let start = c .before .before .before .before .before .before in
+    let a = start .args .self in
     let at-x = ap (λ (k : ℕ). k % 2) (c .before .before .before .before .bit .ensures) ∙ mod-mod (a .x / side 21 (a .level)) 2 in
     let at-y = ap (λ (k : ℕ). k % 2) (c .before .before .before .bit2 .ensures) ∙ mod-mod (a .y / side 21 (a .level)) 2 in
     triangle-path _ _ (c .before .rounded .ensures) (c .rounded2 .ensures) refl
-    (ap (λ (s : Slot). s .kind) (c .before .before .slot-of .ensures) ∙ ap parentKind (step-path _ _ _ _ _ _ at-x at-y (mod-eq-of-lt (c .before .before .before .before .before .before .pre .1 .1))))
+    (ap (λ (s : Slot). s .kind) (c .before .before .slot-of .ensures) ∙ ap parentKind (step-path _ _ _ _ _ _ at-x at-y (mod-eq-of-lt (start .pre .1 .1))))
 
 pub up-spec : {M : Type 1} → statement M
 up-spec =

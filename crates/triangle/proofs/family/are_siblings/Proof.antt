@@ -51,9 +51,10 @@ returns-2 c =
 up-requires : tie.Need-up-requires Inv-loop μ-loop
 unfolding triangleTo
 up-requires c κs =
-    let a = c .before .before .before .before .before .before .before .before .args in
+    let start = c .before .before .before .before .before .before .before .before in
+    let a = start .args in
     let cs = columns (a .xs .now) (a .ys .now) (a .levels .now) (a .kinds .now) in
-    let sound : triangle .fault (element cs 0) ≡ 0 = scan-all (triangle .fault) (element cs) 0 (length (cs .x)) 0 (c .before .before .before .before .before .before .before .before .pre .sound) (omega arith) in
+    let sound : triangle .fault (element cs 0) ≡ 0 = scan-all (triangle .fault) (element cs) 0 (length (cs .x)) 0 (start .pre .sound) (omega arith) in
     let typed : (element cs 0) .kind < 2 = known 21 (element cs 0) sound .typed in
     let kinds = ap (λ (e : Triangle). e .kind) (c .before .before .row .ensures) in
     let shallow : (element cs 0) .level ≤ 21 = lawful 21 .shallow (element cs 0) sound in
@@ -81,14 +82,17 @@ cast-down c = omega arith
 down-requires : tie.Need-down-requires Inv-loop μ-loop
 unfolding triangleTo
 down-requires c κs =
-    let a = c .before .before .before .before .before .before .before .before .before .before .before .args in
+    let at-up = c .before .before in
+    let at-row = at-up .before .before .before in
+    let start = at-row .before .before .before .before .before .before in
+    let a = start .args in
     let cs = columns (a .xs .now) (a .ys .now) (a .levels .now) (a .kinds .now) in
     let first = element cs 0 in
-    let deep : first .level ≡ 0 → ⊥ = λ flat. c .before .before .before .if2 .left (ap (λ (e : Triangle). e .level) (c .before .before .before .before .before .row .ensures) ∙ flat) in
-    let sound : triangle .fault first ≡ 0 = scan-all (triangle .fault) (element cs) 0 (length (cs .x)) 0 (c .before .before .before .before .before .before .before .before .before .before .before .pre .sound) (omega arith) in
-    let above : c .before .before .up .result ≡ triangle .parent first = c .before .before .up .ensures ∙ ap (triangle .parent) (c .before .before .before .before .before .row .ensures) in
-    let under : Sound triangle (c .before .before .up .result) = rw above (lawful 21 .parent-sound first sound (omega (arith, deep))) in
-    let higher : (c .before .before .up .result) .level < 21 =
+    let deep : first .level ≡ 0 → ⊥ = λ flat. c .before .before .before .if2 .left (ap (λ (e : Triangle). e .level) (at-row .row .ensures) ∙ flat) in
+    let sound : triangle .fault first ≡ 0 = scan-all (triangle .fault) (element cs) 0 (length (cs .x)) 0 (start .pre .sound) (omega arith) in
+    let above : at-up .up .result ≡ triangle .parent first = at-up .up .ensures ∙ ap (triangle .parent) (at-row .row .ensures) in
+    let under : Sound triangle (at-up .up .result) = rw above (lawful 21 .parent-sound first sound (omega (arith, deep))) in
+    let higher : (at-up .up .result) .level < 21 =
     rw above (omega (arith, lawful 21 .parent-level first (omega (arith, deep)), lawful 21 .shallow first sound)) in
     (under, (higher, c .loop-test .taken))
 
@@ -101,13 +105,16 @@ equals-requires c κs = tt
 returns-3 : tie.Need-returns-3 Inv-loop μ-loop
 unfolding triangleTo
 returns-3 c =
-    let a = c .before .before .before .before .before .before .before .before .before .before .before .before .before .before .before .args in
+    let at-loop = c .before .before .before .before .before in
+    let at-up = at-loop .before in
+    let start = at-up .before .before .before .before .before .before .before .before .before in
+    let a = start .args in
     let cs = columns (a .xs .now) (a .ys .now) (a .levels .now) (a .kinds .now) in
-    let i = c .before .before .before .before .before .loop .i in
-    let parent = c .before .before .before .before .before .before .up .result in
+    let i = at-loop .loop .i in
+    let parent = at-up .up .result in
     let alike : triangle .same (triangle .child parent i) (element cs i) ≡ false =
     sym (c .before .equals .ensures ∙ ap₂ (triangle .same) (c .before .before .before .down .ensures) (c .before .before .row2 .ensures)) ∙ not-true (c .before .equals .result) (c .if3 .taken) in
-    sym (c .before .before .before .before .before .loop .inv .1 ∙ sibling-differs triangle (lawful 21) (element cs) parent 4 i (c .before .before .before .before .loop-test .taken) alike)
+    sym (at-loop .loop .inv .1 ∙ sibling-differs triangle (lawful 21) (element cs) parent 4 i (c .before .before .before .before .loop-test .taken) alike)
 
 add-i : tie.Need-add-i Inv-loop μ-loop
 add-i c = omega arith
@@ -118,13 +125,16 @@ loop-less c = omega arith
 loop-again : tie.Need-loop-again Inv-loop μ-loop
 unfolding triangleTo
 loop-again c =
-    let a = c .before .before .before .before .before .before .before .before .before .before .before .before .before .before .before .args in
+    let at-loop = c .before .before .before .before .before in
+    let at-up = at-loop .before in
+    let start = at-up .before .before .before .before .before .before .before .before .before in
+    let a = start .args in
     let cs = columns (a .xs .now) (a .ys .now) (a .levels .now) (a .kinds .now) in
-    let i = c .before .before .before .before .before .loop .i in
-    let parent = c .before .before .before .before .before .before .up .result in
+    let i = at-loop .loop .i in
+    let parent = at-up .up .result in
     let alike : triangle .same (triangle .child parent i) (element cs i) ≡ true =
     sym (c .before .equals .ensures ∙ ap₂ (triangle .same) (c .before .before .before .down .ensures) (c .before .before .row2 .ensures)) ∙ not-false (c .before .equals .result) (c .if3 .left) in
-    (omega arith, c .before .before .before .before .before .loop .inv .1 ∙ sibling-step triangle (lawful 21) (element cs) parent 4 i (c .before .before .before .before .loop-test .taken) alike)
+    (omega arith, at-loop .loop .inv .1 ∙ sibling-step triangle (lawful 21) (element cs) parent 4 i (c .before .before .before .before .loop-test .taken) alike)
 
 returns-4 : tie.Need-returns-4 Inv-loop μ-loop
 unfolding triangleTo

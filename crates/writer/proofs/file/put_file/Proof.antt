@@ -62,7 +62,8 @@ add-at c =
 
 put-requires-2 : tie.Need-put-requires-2
 put-requires-2 c κs =
-    let start = c .before .before .before .before .before .before .before .before in
+    let at-before = c .before .before .before .before .before .before .before in
+    let start = at-before .before in
     let a = start .args in
     (omega (arith, (start .pre), level-runs-few (a .levels .now)), omega (arith, file-room (a .k) (a .runs) (a .levels .now) (a .bytes .now) (start .pre .1 .0) (start .pre .1 .1), (c .before .size .ensures), simp (length-sets, length-set) at (ap length (c .before .before .before .before .put .ensures))))
 
@@ -71,24 +72,36 @@ size-requires-2 c κs = search needs
 
 add-put-runs : tie.Need-add-put-runs
 add-put-runs c =
-    let start = c .before .before .before .before .before .before .before .before .before .before .before .before in
+    let at-before = c .before .before .before .before .before .before .before .before .before .before .before in
+    let start = at-before .before in
     let a = start .args in
     omega (arith, (c .before .before .before .before .before .size .ensures), (c .size2 .ensures), file-room (a .k) (a .runs) (a .levels .now) (a .bytes .now) (start .pre .1 .0) (start .pre .1 .1))
 
 put-runs-requires : tie.Need-put-runs-requires
 put-runs-requires c κs =
-    let start = c .before .before .before .before .before .before .before .before .before .before .before .before .before in
+    let at-size = c .before .before .before .before .before .before in
+    let at-put = at-size .before .before .before in
+    let at-before = at-put .before .before .before in
+    let start = at-before .before in
     let a = start .args in
-    ((start .pre .0), omega (arith, file-room (a .k) (a .runs) (a .levels .now) (a .bytes .now) (start .pre .1 .0) (start .pre .1 .1), (c .before .before .before .before .before .before .size .ensures), (c .before .size2 .ensures), simp (length-sets, length-set) at (ap length (c .before .before .before .before .before .before .before .before .before .put .ensures)), simp length-sets at (ap length (c .before .before .before .before .put2 .ensures))))
+    ((start .pre .0), omega (arith, file-room (a .k) (a .runs) (a .levels .now) (a .bytes .now) (start .pre .1 .0) (start .pre .1 .1), (at-size .size .ensures), (c .before .size2 .ensures), simp (length-sets, length-set) at (ap length (at-put .put .ensures)), simp length-sets at (ap length (c .before .before .before .before .put2 .ensures))))
 
 same-length : tie.Need-same-length
-same-length c = (simp length-sets at (ap length (c .before .before .put-runs .ensures))) ∙ (simp length-sets at (ap length (c .before .before .before .before .before .before .before .put2 .ensures))) ∙ (simp (length-sets, length-set) at (ap length (c .before .before .before .before .before .before .before .before .before .before .before .before .put .ensures)))
+same-length c =
+    let at-put2 = c .before .before .before .before .before .before .before in
+    let at-put = at-put2 .before .before .before .before .before in
+    (simp length-sets at (ap length (c .before .before .put-runs .ensures))) ∙ (simp length-sets at (ap length (at-put2 .put2 .ensures))) ∙ (simp (length-sets, length-set) at (ap length (at-put .put .ensures)))
 
 returns : tie.Need-returns
 returns c =
-    let start = c .before .before .before .before .before .before .before .before .before .before .before .before .before .before .before .before in
+    let at-size2 = c .before .before .before .before in
+    let at-put2 = at-size2 .before .before .before in
+    let at-size = at-put2 .before .before in
+    let at-put = at-size .before .before .before in
+    let at-before = at-put .before .before .before in
+    let start = at-before .before in
     let a = start .args in
-    file-put (a .k) (a .runs) (a .levels .now) (a .bytes .now) (start .pre .1 .0) (start .pre .1 .1) (c .before .before .before .before .before .before .before .before .before .size .result) (c .before .before .before .before .size2 .result) (c .before .before .before .before .before .before .before .before .before .size .ensures) (c .before .before .before .before .size2 .ensures) (c .before .before .before .before .before .before .before .before .before .before .before .before .put .ensures) (c .before .before .before .before .before .before .before .put2 .ensures) (c .before .before .put-runs .ensures)
+    file-put (a .k) (a .runs) (a .levels .now) (a .bytes .now) (start .pre .1 .0) (start .pre .1 .1) (at-size .size .result) (at-size2 .size2 .result) (at-size .size .ensures) (at-size2 .size2 .ensures) (at-put .put .ensures) (at-put2 .put2 .ensures) (c .before .before .put-runs .ensures)
 
 pub put-file-spec : {M : Type 1} → statement M
 put-file-spec =

@@ -46,37 +46,49 @@ size-requires c κs = search needs
 
 add-at : tie.Need-add-at Inv-loop μ-loop
 add-at c =
-    let at-loop = c .before .before .before .before .before .before .before .before in
+    let at-end = c .before .before .before .before .before .before in
+    let at-before = at-end .before in
+    let at-loop = at-before .before in
     let start = at-loop .before .before .before in
     let a = start .args in
-    omega (arith, (c .size .ensures), room-run (a .levels .now) (a .start) (a .bytes .now) (at-loop .loop .i) (at-loop .loop .at) (at-loop .loop .bytes) (at-loop .loop .inv) (c .before .before .before .before .before .before .end .result) (c .before .before .before .before .before .before .end .ensures))
+    omega (arith, (c .size .ensures), room-run (a .levels .now) (a .start) (a .bytes .now) (at-loop .loop .i) (at-loop .loop .at) (at-loop .loop .bytes) (at-loop .loop .inv) (at-end .end .result) (at-end .end .ensures))
 
 put-requires-2 : tie.Need-put-requires-2 Inv-loop μ-loop
 put-requires-2 c κs =
-    let at-loop = c .before .before .before .before .before .before .before .before .before in
+    let at-end = c .before .before .before .before .before .before .before in
+    let at-before = at-end .before in
+    let at-loop = at-before .before in
     let start = at-loop .before .before .before in
     let a = start .args in
-    (omega (arith, (c .before .before .before .before .before .before .before .end .ensures .alike .within), (start .pre .0)), room-count (a .levels .now) (a .start) (a .bytes .now) (at-loop .loop .i) (at-loop .loop .at) (at-loop .loop .bytes) (at-loop .loop .inv) (c .before .before .before .before .before .before .before .end .result) (c .before .before .before .before .before .before .before .end .ensures) (c .before .size .result) (c .before .size .ensures) (c .before .before .before .before .put .ensures))
+    (omega (arith, (at-end .end .ensures .alike .within), (start .pre .0)), room-count (a .levels .now) (a .start) (a .bytes .now) (at-loop .loop .i) (at-loop .loop .at) (at-loop .loop .bytes) (at-loop .loop .inv) (at-end .end .result) (at-end .end .ensures) (c .before .size .result) (c .before .size .ensures) (c .before .before .before .before .put .ensures))
 
 size-requires-2 : tie.Need-size-requires-2 Inv-loop μ-loop
 size-requires-2 c κs = search needs
 
 add-at-2 : tie.Need-add-at-2 Inv-loop μ-loop
 add-at-2 c =
-    let at-loop = c .before .before .before .before .before .before .before .before .before .before .before .before .before in
+    let at-end = c .before .before .before .before .before .before .before .before .before .before .before in
+    let at-before = at-end .before in
+    let at-loop = at-before .before in
     let start = at-loop .before .before .before in
     let a = start .args in
-    omega (arith, (c .before .before .before .before .before .size .ensures), (c .size2 .ensures), room-run (a .levels .now) (a .start) (a .bytes .now) (at-loop .loop .i) (at-loop .loop .at) (at-loop .loop .bytes) (at-loop .loop .inv) (c .before .before .before .before .before .before .before .before .before .before .before .end .result) (c .before .before .before .before .before .before .before .before .before .before .before .end .ensures))
+    omega (arith, (c .before .before .before .before .before .size .ensures), (c .size2 .ensures), room-run (a .levels .now) (a .start) (a .bytes .now) (at-loop .loop .i) (at-loop .loop .at) (at-loop .loop .bytes) (at-loop .loop .inv) (at-end .end .result) (at-end .end .ensures))
 
 loop-less : tie.Need-loop-less Inv-loop μ-loop
-loop-less c = omega (arith, (c .before .before .before .before .before .before .before .before .before .before .before .end .ensures .alike .some), (c .before .before .before .before .before .before .before .before .before .before .before .end .ensures .alike .within))
+loop-less c =
+    let at-end = c .before .before .before .before .before .before .before .before .before .before .before in
+    omega (arith, (at-end .end .ensures .alike .some), (at-end .end .ensures .alike .within))
 
 loop-again : tie.Need-loop-again Inv-loop μ-loop
 loop-again c =
-    let at-loop = c .before .before .before .before .before .before .before .before .before .before .before .before .before in
+    let at-size = c .before .before .before .before .before in
+    let at-put = at-size .before .before .before in
+    let at-end = at-put .before .before .before in
+    let at-before = at-end .before in
+    let at-loop = at-before .before in
     let start = at-loop .before .before .before in
     let a = start .args in
-    stored-next (a .levels .now) (a .start) (a .bytes .now) (at-loop .loop .i) (at-loop .loop .at) (at-loop .loop .bytes) (at-loop .loop .inv) (c .before .before .before .before .before .before .before .before .before .before .before .end .result) (c .before .before .before .before .before .before .before .before .before .before .before .end .ensures) (c .before .before .before .before .before .size .result) (c .before .before .before .before .before .size .ensures) (c .before .before .before .before .before .before .before .before .put .ensures) (c .size2 .result) (c .size2 .ensures) (c .before .before .before .put2 .ensures)
+    stored-next (a .levels .now) (a .start) (a .bytes .now) (at-loop .loop .i) (at-loop .loop .at) (at-loop .loop .bytes) (at-loop .loop .inv) (at-end .end .result) (at-end .end .ensures) (at-size .size .result) (at-size .size .ensures) (at-put .put .ensures) (c .size2 .result) (c .size2 .ensures) (c .before .before .before .put2 .ensures)
 
 same-length : tie.Need-same-length Inv-loop μ-loop
 same-length c = (c .before .loop .inv .long)

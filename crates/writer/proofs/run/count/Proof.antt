@@ -46,8 +46,9 @@ size-requires-2 c κs = search needs
 
 add-bytes : tie.Need-add-bytes Inv-loop μ-loop
 add-bytes c =
+    let start = c .before .before .before .before .before .before .before in
     let at-loop = c .before .before .before .before .before in
-    omega (arith, (c .before .size .ensures), (c .size2 .ensures), few-bytes (getD (c .before .before .before .before .before .before .before .args .levels .now) (at-loop .loop .i) 0), few-bytes ((c .before .before .before .end .result) - (at-loop .loop .i)))
+    omega (arith, (c .before .size .ensures), (c .size2 .ensures), few-bytes (getD (start .args .levels .now) (at-loop .loop .i) 0), few-bytes ((c .before .before .before .end .result) - (at-loop .loop .i)))
 
 add-bytes-2 : tie.Need-add-bytes-2 Inv-loop μ-loop
 add-bytes-2 c =
@@ -61,8 +62,10 @@ loop-less c = omega (arith, (c .before .before .before .end .ensures .alike .som
 
 loop-again : tie.Need-loop-again Inv-loop μ-loop
 loop-again c =
+    let at-end = c .before .before .before in
+    let start = at-end .before .before .before .before in
     let at-loop = c .before .before .before .before .before in
-    rw ((c .before .size .ensures), (c .size2 .ensures)) (along-next (c .before .before .before .before .before .before .before .args .levels .now) (at-loop .loop .i) (at-loop .loop .count) (at-loop .loop .bytes) (at-loop .loop .inv) (c .before .before .before .end .result) (c .before .before .before .end .ensures))
+    rw ((c .before .size .ensures), (c .size2 .ensures)) (along-next (start .args .levels .now) (at-loop .loop .i) (at-loop .loop .count) (at-loop .loop .bytes) (at-loop .loop .inv) (at-end .end .result) (at-end .end .ensures))
 
 returns : tie.Need-returns Inv-loop μ-loop
 returns c =

@@ -32,11 +32,15 @@ loop-less : tie.Need-loop-less Inv-loop μ-loop
 loop-less c = omega arith
 
 loop-again : tie.Need-loop-again Inv-loop μ-loop
-loop-again c = (
+loop-again c =
+    let at-loop = c .before .before .before in
+    let start = at-loop .before in
+    let a = start .args in
+    (
   omega arith,
   ⊎-elim
-      (λ w. one-other (c .before .before .before .before .args .levels .now) (c .before .before .before .before .args .level) (c .before .before .before .before .args .from) (c .before .before .before .loop .t) (c .if1 .same) (w .1))
-      (λ w still. one-more (c .before .before .before .before .args .levels .now) (c .before .before .before .before .args .level) (c .before .before .before .before .args .from) (c .before .before .before .loop .t) ((c .before .before .before .loop .inv .1) (sym (w .1) ∙ still)) (w .0 .left))
+      (λ w. one-other (a .levels .now) (a .level) (a .from) (at-loop .loop .t) (c .if1 .same) (w .1))
+      (λ w still. one-more (a .levels .now) (a .level) (a .from) (at-loop .loop .t) ((at-loop .loop .inv .1) (sym (w .1) ∙ still)) (w .0 .left))
       (c .if1 .came),
 )
 

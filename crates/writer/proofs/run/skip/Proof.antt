@@ -44,10 +44,11 @@ loop-less c = omega (arith, (c .before .before .before .before .loop .inv .withi
 
 loop-again : tie.Need-loop-again Inv-loop μ-loop
 loop-again c =
-    let at-loop = c .before .before .before .before in
+    let at-before = c .before .before .before in
+    let at-loop = at-before .before in
     let start = at-loop .before .before in
     let a = start .args in
-    alike-more (a .levels .now) (a .i) (at-loop .loop .j) (at-loop .loop .inv) 64 (omega (arith, (at-loop .loop .inv .within), (c .before .before .before .loop-test .taken))) ((c .before .one-level .ensures) (not-false (c .before .one-level .result) (c .if1 .left)))
+    alike-more (a .levels .now) (a .i) (at-loop .loop .j) (at-loop .loop .inv) 64 (omega (arith, (at-loop .loop .inv .within), (at-before .loop-test .taken))) ((c .before .one-level .ensures) (not-false (c .before .one-level .result) (c .if1 .left)))
 
 returns-2 : tie.Need-returns-2 Inv-loop μ-loop
 returns-2 c = (c .before .loop .inv)
