@@ -1,4 +1,4 @@
--- Inner contracts: what the code's own functions ask and answer. A reader of the promises may skip this file. Definitions only.
+-- Inner contracts: what functions ask and answer that only this house calls. A reader of the promises may skip this file. Definitions only.
 --
 -- The pass over the marks as the code makes it: turn by turn, from one leaf that is no younger sibling of a merging family to the next;
 -- `proofs/Turns.antt` ties it to what each leaf gives.

@@ -1,4 +1,4 @@
--- Inner contracts: what the code's own functions ask and answer. A reader of the promises may skip this file.
+-- Inner contracts: what functions ask and answer that only this house calls. A reader of the promises may skip this file.
 --
 --   Axis            one coordinate of a root's six corners; along a j is its vj; xs, ys, zs are a root's three
 --   Local           local (X, Y, Z); localOf and cornerOf go from the prism's corner to it and back

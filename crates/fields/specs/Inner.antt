@@ -1,4 +1,4 @@
--- Inner contracts: what the code's own functions ask and answer. A reader of the promises may skip this file. Definitions only.
+-- Inner contracts: what functions ask and answer that only this house calls. A reader of the promises may skip this file. Definitions only.
 --
 --   piece s      the first field of the bytes s: up to the next semicolon or LF
 --   next s e     where the field after the one that ended at e begins; past the end of s where there is none

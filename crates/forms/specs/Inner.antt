@@ -1,4 +1,4 @@
--- Inner contracts: what the code's own functions ask and answer. A reader of the promises may skip this file. Definitions only.
+-- Inner contracts: what functions ask and answer that only this house calls. A reader of the promises may skip this file. Definitions only.
 --
 --   fieldAt s at i   field i from the cursor `at` on, an empty field seven as what it means
 --   Taken            field i from the cursor on: its refusal, and where it has none, its number and where it ends

@@ -1,7 +1,7 @@
 -- The calls over C that lend memory: what each returns is the result of its outcome, and the memory is what that outcome leaves.
 -- Definitions only.
 --
---   counted o        the result of a call whose value is how many entries or bytes it wrote
+--   countOf o        the result of a call whose value is how many entries or bytes it wrote
 --   UniformResult, AdaptResult, SharesResult, WriteResult, ReadResult, OrderResult
 --                    the contracts, of a call that returned r, found the memory m and left m′
 --
@@ -28,25 +28,25 @@ use Rattle.results.specs.Results.{numberResult, passResult, gridResult}
 abbrev itself : {A : Type 0} → A → A
 itself r = r
 
-abbrev pub counted : {A : Type 0} → Outcome (List A) → NumberResult
-counted o = numberResult (mapped length o)
+abbrev pub countOf : {A : Type 0} → Outcome (List A) → NumberResult
+countOf o = numberResult (mapped length o)
 
 abbrev pub UniformResult : ℕ → ℕ → NumberResult → Columns → Columns → Type 0
-UniformResult k level r m m′ = Fulfils itself counted front (uniform CHILDREN HIGHEST k level m) r m m′
+UniformResult k level r m m′ = Fulfils itself countOf front (uniform CHILDREN HIGHEST k level m) r m m′
 
 abbrev pub AdaptResult : ℕ → NumberResult → Columns → List ℕ → Columns → Columns → Type 0
-AdaptResult k r cs marks m m′ = Fulfils itself counted front (adapt CHILDREN HIGHEST k cs marks m) r m m′
+AdaptResult k r cs marks m m′ = Fulfils itself countOf front (adapt CHILDREN HIGHEST k cs marks m) r m m′
 
 abbrev pub SharesResult : ℕ → ℕ → ℕ → Columns → List ℕ → List ℕ → List ℕ → Type 0
 SharesResult k p r cs weights m m′ =
     Fulfils itself (λ o. passResult (mapped (λ (boundaries : List ℕ). tt) o)) written (shares CHILDREN HIGHEST k p cs weights m) r m m′
 
 abbrev pub WriteResult : ℕ → NumberResult → Columns → List ℕ → List ℕ → Type 0
-WriteResult k r cs m m′ = Fulfils itself counted written (write CHILDREN HIGHEST k cs m) r m m′
+WriteResult k r cs m m′ = Fulfils itself countOf written (write CHILDREN HIGHEST k cs m) r m m′
 
 abbrev pub ReadResult : GridResult → List ℕ → Columns → Columns → Type 0
 ReadResult r bytes m m′ =
     Fulfils itself (λ o. gridResult (mapped sizeOf o)) (λ (g : Grid). front (g .leaves)) (read CHILDREN HIGHEST bytes m) r m m′
 
 abbrev pub OrderResult : NumberResult → List ℕ → List ℕ → List ℕ → Type 0
-OrderResult r input m m′ = Fulfils itself counted written (answer input (length m)) r m m′
+OrderResult r input m m′ = Fulfils itself countOf written (answer input (length m)) r m m′

@@ -5,13 +5,13 @@ ghost use mathlib.Core.Bool.{_&&_};
 ghost use lib.Dec.{leb, ltb, eqb};
 ghost use lib.ListN.{length};
 ghost use Rattle.paper.specs.Outcome.{checks, fault-when};
-ghost use Rattle.paper.specs.Readings.{checksOf};
+ghost use Rattle.paper.specs.Readings.{checksOf, Finds};
 ghost use Rattle.marks.specs.Marks.{markFault, depthFault, numbers, checkMarks};
 ghost use Rattle.marks.specs.Inner.{Faultless};
 
 // The first fault of the marks: 11 where there are not as many as levels, 13 at any leaf, then 7.
 pub fn check(highest: u8, levels: &[u8], marks: &[u8]) -> Fault
-    ensures { λ r. ⌜ checksOf r ≡ checkMarks highest (now (levels .entry)) (now (marks .entry)) ⌝ }
+    ensures { λ r. ⌜ Finds r (checkMarks highest (now (levels .entry)) (now (marks .entry))) ⌝ }
 {
     if levels.len() != marks.len() {
         return Fault {
@@ -29,7 +29,14 @@ pub fn check(highest: u8, levels: &[u8], marks: &[u8]) -> Fault
     if above.number != 0 {
         return above;
     }
-    too_deep(highest, levels, marks)
+    let deep = too_deep(highest, levels, marks);
+    if deep.number != 0 {
+        return deep;
+    }
+    Fault {
+        number: 0,
+        place: 0,
+    }
 }
 
 // 0 only where no mark has a fault: all of them without a way out in between, so that the machine takes many at a time.

@@ -7,7 +7,7 @@ use Rattle.paper.specs.Outcome.{refused}
 use Rattle.shares.specs.Shares.{total, largest}
 use Rattle.fields.specs.Fields.{fields, ended, allDigits, valueFrom}
 use Rattle.forms.specs.Forms.{read}
-use Rattle.text.specs.Text.{decimalIn, joined}
+use Rattle.text.specs.Text.{decimalIn, chained}
 use Rattle.orders.specs.Calls.{output}
 
 -- `1042;7;3;1;4;3;1`
@@ -16,7 +16,7 @@ example = 49 ∷ 48 ∷ 52 ∷ 50 ∷ 59 ∷ 55 ∷ 59 ∷ 51 ∷ 59 ∷ 49 ∷ 
 
 -- `order 1042 site 7 model 3 roots 1 level 1 leaves 8 shares 3`, `0 0 2`, `1 2 3`, `2 5 3`
 example-printed : output example ≡ 111 ∷ 114 ∷ 100 ∷ 101 ∷ 114 ∷ 32 ∷ 49 ∷ 48 ∷ 52 ∷ 50 ∷ 32 ∷ 115 ∷ 105 ∷ 116 ∷ 101 ∷ 32 ∷ 55 ∷ 32 ∷ 109 ∷ 111 ∷ 100 ∷ 101 ∷ 108 ∷ 32 ∷ 51 ∷ 32 ∷ 114 ∷ 111 ∷ 111 ∷ 116 ∷ 115 ∷ 32 ∷ 49 ∷ 32 ∷ 108 ∷ 101 ∷ 118 ∷ 101 ∷ 108 ∷ 32 ∷ 49 ∷ 32 ∷ 108 ∷ 101 ∷ 97 ∷ 118 ∷ 101 ∷ 115 ∷ 32 ∷ 56 ∷ 32 ∷ 115 ∷ 104 ∷ 97 ∷ 114 ∷ 101 ∷ 115 ∷ 32 ∷ 51 ∷ 10 ∷ 48 ∷ 32 ∷ 48 ∷ 32 ∷ 50 ∷ 10 ∷ 49 ∷ 32 ∷ 50 ∷ 32 ∷ 51 ∷ 10 ∷ 50 ∷ 32 ∷ 53 ∷ 32 ∷ 51 ∷ 10 ∷ []
-unfolding example fields ended allDigits valueFrom decimalIn joined total largest
+unfolding example fields ended allDigits valueFrom decimalIn chained total largest
 example-printed = refl
 
 -- `1;7;3;1;1;3;`

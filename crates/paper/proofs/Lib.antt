@@ -2,3 +2,4 @@ pub mod Tests
 pub mod Scan
 pub mod Front
 pub mod Memory
+pub mod Faults

@@ -1,5 +1,5 @@
 -- Document 01, "Refusal numbers": "lent memory keeps its contents. An accepted call writes its result at the front of the lent columns or
--- bytes, and no further." The form of every contract over lent memory. Definitions only.
+-- bytes, and no further." The form of the contract of every call of the paper that lends memory. Definitions only.
 --
 --   written front l   the lent column l with front at its front
 --   roomFor k room a  "14 no room; place = entries or bytes needed": accepted with a where room holds k of them
@@ -19,10 +19,6 @@ use Rattle.paper.specs.Outcome.{Outcome, accepted, refused, refuse-when-
 
 abbrev pub written : {A : Type 0} → List A → List A → List A
 written front l = front ++ drop (length front) l
-
-abbrev pub lent : {A B : Type 0} → Outcome A → List B → List B → List B
-lent (accepted a) front l = written front l
-lent (refused number place) front l = l
 
 abbrev pub roomFor : {A : Type 0} → ℕ → ℕ → A → Outcome A
 roomFor needed room result = refuse-when-at (ltb room needed) 14 needed (accepted result)

@@ -1,10 +1,12 @@
 -- Document 01, "The right form for each place": "For each answer that is an enum, a definition gives this paper's number and
 -- values for each of the enum's cases, and the promises use that definition."
 --
---   valueOf, truthOf, comparisonOf, passOf   the outcome that a NumberAnswer, a TruthAnswer, an CompareAnswer, a PassAnswer stands for
---   checksOf                        the outcome that a Fault stands for: number 0 is none
+--   valueOf, truthOf, comparisonOf, passOf   the outcome that a NumberAnswer, a TruthAnswer, a CompareAnswer, a PassAnswer stands for
+--   checksOf f   the outcome that a Fault stands for: number 0 is none
+--   Finds f o    the Fault f finds what the outcome o says: it stands for o, and where it is none its place is 0
 --
 -- Assumes nothing.
+use mathlib.Core.Path.{_≡_}
 use mathlib.Core.Bool.{Bool, not}
 use Prim.Native.Nat.{ℕ}
 use lib.Dec.{eqb}
@@ -39,3 +41,7 @@ passOf (pass.Refused number place) = refused number place
 
 abbrev pub checksOf : Fault → Outcome (Unit {0})
 checksOf f = refuse-when-at (not (eqb (f .number) 0)) (f .number) (f .place) passed
+
+pub record Finds (f : Fault) (o : Outcome (Unit {0})) : Type 0 where
+  pub stands : checksOf f ≡ o
+  pub unplaced : f .number ≡ 0 → f .place ≡ 0

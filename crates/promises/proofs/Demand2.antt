@@ -60,6 +60,14 @@ use Rattle.reader.specs.declared.GridAnswer.{GridAnswer}
 use Rattle.reader.specs.declared.GridAnswer.the-variants as grid-answer
 use Rattle.gridfile.proofs.RoundTrip.{round-trip}
 use Rattle.gridfile.proofs.InMemory.{in-memory}
+use Rattle.paper.proofs.Faults.{finds-one}
+use Rattle.format.specs.Reading.{Head}
+use Rattle.sounding.specs.Answers.{headOf}
+use Rattle.sounding.specs.declared.HeadAnswer.{HeadAnswer}
+use Rattle.sounding.specs.declared.HeadAnswer.the-variants as head-answer
+use Rattle.forms.specs.Forms.{formOf}
+use Rattle.forms.specs.declared.FormAnswer.{FormAnswer}
+use Rattle.forms.specs.declared.FormAnswer.the-variants as form-answer
 use Rattle.orders.proofs.Promised as orders-laws
 use Rattle.corners.specs.CornerPoints.{pointOf}
 use Rattle.corners.specs.declared.PointAnswer.{PointAnswer}
@@ -165,6 +173,23 @@ point-answers = determined-by pointOf (answer point-answer.Is point-answer.Refus
     undo (point-answer.Is p) = refl
     undo (point-answer.Refused n p) = refl
 
+abbrev head-is : Head → HeadAnswer
+head-is h = head-answer.Is (h .roots) (h .runs) (h .next)
+
+head-answers : Determined headOf
+head-answers = determined-by headOf (answer head-is head-answer.Refused) undo
+  where
+    undo : (r : HeadAnswer) → answer head-is head-answer.Refused (headOf r) ≡ r
+    undo (head-answer.Is roots runs next) = refl
+    undo (head-answer.Refused n p) = refl
+
+form-answers : Determined formOf
+form-answers = determined-by formOf (answer form-answer.Is form-answer.Refused) undo
+  where
+    undo : (r : FormAnswer) → answer form-answer.Is form-answer.Refused (formOf r) ≡ r
+    undo (form-answer.Is f) = refl
+    undo (form-answer.Refused n p) = refl
+
 abbrev ordered : Order → CompareAnswer
 ordered less = compare-answer.Less
 ordered same = compare-answer.Same
@@ -198,6 +223,9 @@ of-elements =
         grids = grid-answers;
         numbers-found = numbers-found;
         points = point-answers;
+        heads = head-answers;
+        forms = form-answers;
+        faults = finds-one;
       };
     }
 

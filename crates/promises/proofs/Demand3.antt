@@ -1,13 +1,13 @@
 -- Demand 3: the cells are those of a valid list, the shares are fair, and an accepted call of shares found both. Assumes nothing.
-use mathlib.Core.Path.{_≡_, _∙_}
+use mathlib.Core.Path.{_≡_, _∙_, sym}
 use mathlib.Core.Bool.{true, not}
 use mathlib.Core.List.{List}
-use Prim.Native.Nat.{ℕ, zero, suc, _<_}
+use Prim.Native.Nat.{ℕ, zero, suc, _+_, _<_}
 use native.Mathlib.Omega.{arith}
 use lib.Dec.{ltb, eqb}
 use lib.ListN.{length, getD}
 use borrow.Author.Tests.{eqb-true, eqb-false, not-true}
-use Rattle.paper.specs.Outcome.{accepted}
+use Rattle.paper.specs.Outcome.{Outcome, accepted}
 use Rattle.paper.proofs.Tests.{or-none, no-fault}
 use Rattle.paper.proofs.Scan.{accepted-of, scan-accepted, scan-each}
 use Rattle.prism.specs.Elements.{prismTo, prism}
@@ -18,6 +18,7 @@ use Rattle.leaves.proofs.Entries.{some-leaf}
 use Rattle.leaves.proofs.Listed.{columns-sound, listed-accepted, listed-fits}
 use Rattle.leaves.proofs.Columns.{leaves-length}
 use Rattle.adaption.specs.Laws.{Reached}
+use Rattle.shares.specs.Shares.{boundaries}
 use Rattle.shares.specs.Calls.{weightFault, shares}
 use Rattle.shares.specs.Laws.{Fair, Weighty}
 use Rattle.prism.proofs.Laws as prism-laws
@@ -57,15 +58,22 @@ weight-some w right = above (eqb-false w 0 (no-fault (eqb w 0) 15 0 right .0))
     above : {m : ℕ} → (m ≡ 0 → ⊥) → 0 < m
     above {m} none = omega arith
 
-of-accepted : (K P : ℕ) (cs : Columns) (ws column boundaries : List ℕ) → shares 8 21 K P cs ws column ≡ accepted boundaries → Divided K P (leaves cs) ws
-of-accepted K P cs ws column boundaries h =
-    let inside = listed-accepted 8 21 K (not (outOfRange P)) (eqb (room cs) (length ws)) cs _ boundaries h in
-    let fits = listed-fits 8 21 K (not (outOfRange P)) (eqb (room cs) (length ws)) cs _ boundaries h in
+of-accepted : (K P : ℕ) (cs : Columns) (ws column bs : List ℕ) → shares 8 21 K P cs ws column ≡ accepted bs
+    → (bs ≡ boundaries P ws) × Divided K P (leaves cs) ws
+of-accepted K P cs ws column bs h =
+    let inside = listed-accepted 8 21 K (not (outOfRange P)) (eqb (room cs) (length ws)) cs _ bs h in
+    let fits = listed-fits 8 21 K (not (outOfRange P)) (eqb (room cs) (length ws)) cs _ bs h in
     let sound = columns-sound 8 21 K (not (outOfRange P)) (eqb (room cs) (length ws)) cs (inside .0) in
-    let weights = scan-accepted weightFault 0 ws _ boundaries (inside .1) in
-    let long = eqb-true (room cs) (length ws) (fits .1) in
-    of-list K P (leaves cs) ws (sound .valid) (omega (arith, sound .some, leaves-length cs)) (omega (arith, long, leaves-length cs))
-    (λ j below. weight-some (getD ws j 0) (scan-each weightFault 0 ws 0 j (weights .0) below)) (shares-some P (fits .0))
+    let weights = scan-accepted weightFault 0 ws _ bs (inside .1) in
+    let enough = accepted-of (ltb (length column) (P + 1)) 14 (P + 1) _ bs (weights .1) in
+    let long = eqb-true (room cs) (length ws) (fits .1) in (
+      sym (accepted-same (enough .1)),
+      of-list K P (leaves cs) ws (sound .valid) (omega (arith, sound .some, leaves-length cs)) (omega (arith, long, leaves-length cs))
+          (λ j below. weight-some (getD ws j 0) (scan-each weightFault 0 ws 0 j (weights .0) below)) (shares-some P (fits .0)),
+    )
+  where
+    accepted-same : {A : Type 0} {a b : A} → _≡_ {A = Outcome A} (accepted a) (accepted b) → a ≡ b
+    accepted-same e = cc
 
 -- ---- a reached grid has a root
 reached-root : (K s : ℕ) (vs : List Leaf) → Reached 8 21 K s vs → 0 < K

@@ -1,10 +1,11 @@
--- The order's second demand, for elements, leaf lists, grid files, corner points and orders: "Positions are those of the prism index .. An element's position is its rank among all elements
--- of its level in that order, and each position below eight to the power of the level gives back its element." Definitions only.
+-- The order's second demand, for elements, leaf lists, grid files, corner points and orders: "Positions are those of the prism index .. An
+-- element's position is its rank among all elements of its level in that order, and each position below eight to the power of the level gives
+-- back its element." Definitions only.
 --
 --   Elements      what is promised of one shape, with its index and its faces
 --   Determined f  two answers with the same reading are the same answer
 --   OfElements    demand 2, of the elements of all three shapes
---   Answers       of every enum that a public call answers, and of a number found in a file
+--   Answers       of every enum that a public call answers; and an outcome is found by one Fault
 --   OfLists       demand 2, of leaf lists: the list check is exact, each smallest cell lies in one leaf, a leaf's relatives are the
 --                 prism's, adaption is the paper's one pass, boundaries are the paper's, balanced is the paper's
 --   OfOrders      of the order program: the first 71 bytes decide, its shares are the list's own, its output has room
@@ -15,7 +16,9 @@
 use mathlib.Core.Path.{_≡_}
 use mathlib.Core.List.{List}
 use Prim.Native.Nat.{ℕ}
-use Rattle.paper.specs.Readings.{valueOf, truthOf, comparisonOf, passOf}
+use Rattle.paper.specs.Outcome.{Outcome}
+use Rattle.paper.specs.declared.Fault.{Fault}
+use Rattle.paper.specs.Readings.{valueOf, truthOf, comparisonOf, passOf, Finds}
 use Rattle.tree.specs.Anchors.{HIGHEST}
 use Rattle.tree.specs.Shape.{Shape}
 use Rattle.tree.specs.Ancestors.{Ancestors}
@@ -31,6 +34,8 @@ use Rattle.numbers.specs.Laws.{Codec}
 use Rattle.format.specs.Laws.{OneFile}
 use Rattle.reader.specs.Answers.{gridOf}
 use Rattle.gridfile.specs.Laws.{RoundTrip, InMemory}
+use Rattle.sounding.specs.Answers.{headOf}
+use Rattle.forms.specs.Forms.{formOf}
 use Rattle.corners.specs.CornerPoints.{pointOf}
 use Rattle.leaves.specs.Laws as leaves
 use Rattle.adaption.specs.Laws as adaption
@@ -68,6 +73,9 @@ pub record Answers : Type 0 where
   pub grids : Determined gridOf
   pub numbers-found : Determined foundOf
   pub points : Determined pointOf
+  pub heads : Determined headOf
+  pub forms : Determined formOf
+  pub faults : (f g : Fault) (o : Outcome (Unit {0})) → Finds f o → Finds g o → f ≡ g
 
 pub record OfElements : Type 0 where
   pub of-lines : Elements lines.line lineIndex (line-points.facePoints HIGHEST) line-points.faceAcross

@@ -21,7 +21,7 @@ use Rattle.prism.specs.Elements.{prism}
 use Rattle.leaves.specs.Leaves.{CHILDREN, Leaf, Columns, leaves, Valid}
 use Rattle.leaves.specs.Cells.{OneLeaf}
 use Rattle.adaption.specs.Laws.{Reached}
-use Rattle.shares.specs.Shares.{total, boundary, weight, heaviest}
+use Rattle.shares.specs.Shares.{total, boundary, boundaries, weight, heaviest}
 use Rattle.shares.specs.Calls.{shares}
 use Rattle.shares.specs.Laws.{OneShare, Weighty}
 use Rattle.format.specs.Reading.{Grid}
@@ -46,5 +46,5 @@ pub record OfGrids : Type 0 where
       → length ws ≡ length (g .leaves) → Weighty ws → 0 < P → Divided (g .roots) P (g .leaves) ws
   pub of-reached : (K s P : ℕ) (vs : List Leaf) (ws : List ℕ) → Reached CHILDREN HIGHEST K s vs → length ws ≡ length vs → Weighty ws → 0 < P
       → Divided K P vs ws
-  pub of-accepted : (K P : ℕ) (cs : Columns) (ws column boundaries : List ℕ) → shares CHILDREN HIGHEST K P cs ws column ≡ accepted boundaries
-      → Divided K P (leaves cs) ws
+  pub of-accepted : (K P : ℕ) (cs : Columns) (ws column bs : List ℕ) → shares CHILDREN HIGHEST K P cs ws column ≡ accepted bs
+      → (bs ≡ boundaries P ws) × Divided K P (leaves cs) ws

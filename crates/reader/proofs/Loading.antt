@@ -48,14 +48,14 @@ module _ (bs : List ℕ) (h : Head) (m : Columns) (r : Sounding) (t : Tells r (s
   pub faulty : (r .fault .number ≡ 0 → ⊥) → Loaded bs h (grid.Refused (r .fault .number) (r .fault .place)) m m
   faulty some =
       let why : sound CHILDREN HIGHEST bs h .fault ≡ refused (r .fault .number) (r .fault .place) =
-      sym (t .fault) ∙ stops (not (eqb (r .fault .number) 0)) (r .fault .number) (r .fault .place) passed (ap not (ne-eqb (r .fault .number) 0 some)) in
+      sym (t .fault .stands) ∙ stops (not (eqb (r .fault .number) 0)) (r .fault .number) (r .fault .place) passed (ap not (ne-eqb (r .fault .number) 0 some)) in
       refuses gridOf sizeOf put (loading bs h m) (grid.Refused (r .fault .number) (r .fault .place)) m (r .fault .number) (r .fault .place)
       (ap (λ (o : Outcome (Unit {0})). and-then (mapped (λ (us : List Leaf). record { roots = h .roots; leaves = us }) (mapped (λ (u : Unit {0}). vs) o)) (λ (g : Grid). roomFor (length (g .leaves)) (room m) g)) why)
       refl
 
   module _ (none : r .fault .number ≡ 0) where
     sound-all : sound CHILDREN HIGHEST bs h .fault ≡ passed
-    sound-all = sym (t .fault) ∙ passes (not (eqb (r .fault .number) 0)) (r .fault .number) (r .fault .place) passed (ap not (eq-eqb (r .fault .number) 0 none))
+    sound-all = sym (t .fault .stands) ∙ passes (not (eqb (r .fault .number) 0)) (r .fault .number) (r .fault .place) passed (ap not (eq-eqb (r .fault .number) 0 none))
 
     onward : loading bs h m ≡ roomFor (length vs) (room m) whole
     onward =

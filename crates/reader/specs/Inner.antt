@@ -1,4 +1,4 @@
--- Inner contracts: what the code's own functions ask and answer. A reader of the promises may skip this file. Definitions only.
+-- Inner contracts: what functions ask and answer that only this house calls. A reader of the promises may skip this file. Definitions only.
 --
 --   loading bs h m     a file whose front is h, read into the columns m; Loaded: the contract of that
 --   PairAt, CountAt    a pair that was read at offset i: where a level and a count stand there, it is these

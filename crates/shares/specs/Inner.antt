@@ -1,4 +1,4 @@
--- Inner contracts: what the code's own functions ask and answer. A reader of the promises may skip this file. Definitions only.
+-- Inner contracts: what functions ask and answer that only this house calls. A reader of the promises may skip this file. Definitions only.
 --
 --   Within ws limit count sum   sum is the weight of the first count leaves, and within the limit
 --   Stopped ws limit count sum   and one leaf more would pass it

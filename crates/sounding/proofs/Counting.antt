@@ -23,14 +23,15 @@ use Rattle.sounding.specs.Answers.{spotOf, Tells}
 use Rattle.sounding.specs.declared.Sounding.{Sounding}
 
 -- a sounding that stopped at the walk of its numbers
-pub told : (r : Sounding) (s : Sounded) (l : ℕ) → (s .walk ≡ walkAt (r .runs) (r .leaves) l (spotOf (r .come)) (r .next)) × (s .fault ≡ checksOf (r .fault)) → Tells r s
-told r s l here =
+pub told : (r : Sounding) (s : Sounded) (l : ℕ) → (s .walk ≡ walkAt (r .runs) (r .leaves) l (spotOf (r .come)) (r .next)) × (s .fault ≡ checksOf (r .fault))
+    → (r .fault .number ≡ 0 → r .fault .place ≡ 0) → Tells r s
+told r s l here unplaced =
     record {
       runs = sym (ap (λ (w : Walk). w .runs) (here .0));
       leaves = sym (ap (λ (w : Walk). w .count) (here .0));
       come = sym (ap (λ (w : Walk). w .come) (here .0));
       next = sym (ap (λ (w : Walk). w .next) (here .0));
-      fault = sym (here .1);
+      fault = record { stands = sym (here .1); unplaced = unplaced };
     }
 
 pub fault-is : (number place : ℕ) → 0 < number → refuse-when-at {A = Unit {0}} (not (eqb number 0)) number place passed ≡ refused number place

@@ -8,7 +8,7 @@
 -- Assumes nothing.
 use mathlib.Core.Path.{_≡_}
 use Rattle.paper.specs.Outcome.{Outcome, accepted, refused}
-use Rattle.paper.specs.Readings.{checksOf}
+use Rattle.paper.specs.Readings.{Finds}
 use Rattle.leaves.specs.Leaves.{Spot, spotAt}
 use Rattle.format.specs.Reading.{Head, head, Sounded}
 use Rattle.sounding.specs.declared.HeadAnswer.{HeadAnswer}
@@ -28,4 +28,4 @@ pub record Tells (r : Sounding) (s : Sounded) : Type 0 where
   pub leaves : r .leaves ≡ s .walk .count
   pub come : spotOf (r .come) ≡ s .walk .come
   pub next : r .next ≡ s .walk .next
-  pub fault : checksOf (r .fault) ≡ s .fault
+  pub fault : Finds (r .fault) (s .fault)

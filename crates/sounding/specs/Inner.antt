@@ -1,4 +1,4 @@
--- Inner contracts: what the code's own functions ask and answer. A reader of the promises may skip this file. Definitions only.
+-- Inner contracts: what functions ask and answer that only this house calls. A reader of the promises may skip this file. Definitions only.
 --
 --   runOf      the outcome that a RunAnswer stands for
 --   Standing   what the functions ask of their numbers: shifts and sums stay in their words

@@ -6,7 +6,7 @@ use numbers::FoundNumber;
 use paper::Fault;
 ghost use mathlib.Core.Path.{_≡_};
 ghost use Prim.Native.Nat.{_*_, _%_, _^_, _≤_, _<_};
-ghost use Rattle.paper.specs.Readings.{checksOf};
+ghost use Rattle.paper.specs.Readings.{Finds};
 ghost use Rattle.leaves.specs.Leaves.{span};
 ghost use Rattle.leaves.specs.Calls.{limit};
 ghost use Rattle.numbers.specs.Numbers.{found};
@@ -56,7 +56,7 @@ pub(crate) fn runs(bits: u8, highest: u8, k: u16, runs: u32, at: usize, bytes: &
 
 // After the last run: 12 where ground is left, 22 where bytes are.
 fn ended(k: u16, come: Cursor, at: usize, bytes: &[u8]) -> Fault
-    ensures { λ r. ⌜ checksOf r ≡ afterLast (now (bytes .entry)) k (walkAt 0 0 0 (spotOf come) at) ⌝ }
+    ensures { λ r. ⌜ Finds r (afterLast (now (bytes .entry)) k (walkAt 0 0 0 (spotOf come) at)) ⌝ }
 {
     let place = at as u64;
     if come.root != k as u64 {
@@ -194,7 +194,7 @@ fn within(k: u16, come: Cursor) -> bool
     come.cell == 0
 }
 
-// Where so many leaves of a level end that start at a place: counted in leaves of the level, then whole roots and the leaves after them.
+// Where so many leaves of a level end that start at a spot: counted in leaves of the level, then whole roots and the leaves after them.
 fn end_from(bits: u8, highest: u8, level: u8, count: u32, come: Cursor) -> Cursor
     requires { ⌜ Standing bits highest (spotOf come) ⌝ }
     requires { ⌜ level ≤ highest ⌝ }

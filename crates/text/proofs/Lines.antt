@@ -6,25 +6,25 @@ use native.Mathlib.Nat.{zero-mul, zero-add, add-zero, zero-div, mul-le-mul, mul-
 use native.Mathlib.Omega.{arith}
 use Rattle.paper.specs.Outcome.{rows}
 use Rattle.paper.proofs.Front.{rows-two}
-use Rattle.text.specs.Text.{shareLine, joined, shareLines}
+use Rattle.text.specs.Text.{shareLine, chained, shareLines}
 use Rattle.text.specs.Inner.{Put}
 use Rattle.text.proofs.Writing.{put-then}
 
--- ---- joined lines
-joined-append : (ls ms : List (List ℕ)) → joined (ls ++ ms) ≡ joined ls ++ joined ms
-unfolding joined
-joined-append [] ms = refl
-joined-append (l ∷ ls) ms = ap (λ (t : List ℕ). l ++ t) (joined-append ls ms) ∙ sym (append-assoc l (joined ls) (joined ms))
+-- ---- chained lines
+chained-append : (ls ms : List (List ℕ)) → chained (ls ++ ms) ≡ chained ls ++ chained ms
+unfolding chained
+chained-append [] ms = refl
+chained-append (l ∷ ls) ms = ap (λ (t : List ℕ). l ++ t) (chained-append ls ms) ∙ sym (append-assoc l (chained ls) (chained ms))
 
-joined-one : (l : List ℕ) → joined (l ∷ []) ≡ l
-unfolding joined
-joined-one l = append-nil l
+chained-one : (l : List ℕ) → chained (l ∷ []) ≡ l
+unfolding chained
+chained-one l = append-nil l
 
-joined-more : (f : ℕ → List ℕ) (s : ℕ) → joined (rows f 0 (s + 1)) ≡ joined (rows f 0 s) ++ f s
-joined-more f s =
-    ap joined (rows-two f 0 s 1)
-    ∙ joined-append (rows f 0 s) (rows f (0 + s) 1)
-    ∙ ap (λ (t : List ℕ). joined (rows f 0 s) ++ t) (joined-one (f (0 + s)) ∙ ap f (zero-add s))
+chained-more : (f : ℕ → List ℕ) (s : ℕ) → chained (rows f 0 (s + 1)) ≡ chained (rows f 0 s) ++ f s
+chained-more f s =
+    ap chained (rows-two f 0 s 1)
+    ∙ chained-append (rows f 0 s) (rows f (0 + s) 1)
+    ∙ ap (λ (t : List ℕ). chained (rows f 0 s) ++ t) (chained-one (f (0 + s)) ∙ ap f (zero-add s))
 
 -- ---- where the shares begin
 module _ (n p : ℕ) where
@@ -50,15 +50,15 @@ module _ (n p at : ℕ) (l : List ℕ) where
   line s = shareLine s (s * n / p) ((s + 1) * n / p)
 
   abbrev pub Listed : ℕ → List ℕ → ℕ → Type 0
-  Listed s m e = Put (joined (rows line 0 s)) at l m e
+  Listed s m e = Put (chained (rows line 0 s)) at l m e
 
   pub listed-none : Listed 0 l at
-  unfolding joined
+  unfolding chained
   listed-none = record { written = refl; end = sym (add-zero at) }
 
   pub listed-more : (s a e r : ℕ) (m m′ : List ℕ) → a ≡ s * n / p → Listed s m e → Put (shareLine s a ((s + 1) * n / p)) e m m′ r → Listed (s + 1) m′ r
   listed-more s a e r m m′ first so-far put =
-      subst⁻¹ (λ (t : List ℕ). Put t at l m′ r) (joined-more line s)
+      subst⁻¹ (λ (t : List ℕ). Put t at l m′ r) (chained-more line s)
       (put-then so-far (subst (λ (x : ℕ). Put (shareLine s x ((s + 1) * n / p)) e m m′ r) first put))
 
   pub listed-done : (s e : ℕ) (m : List ℕ) → s ≡ p → Listed s m e → Put (shareLines (λ x. x * n / p) p) at l m e

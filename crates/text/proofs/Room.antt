@@ -10,7 +10,7 @@ use Rattle.paper.specs.Outcome.{Outcome, accepted, refused, rows}
 use Rattle.shares.specs.Shares.{boundary}
 use Rattle.forms.specs.declared.Form.{Form}
 use Rattle.fields.specs.Fields.{lf}
-use Rattle.text.specs.Text.{blank, decimal, counted, entry, wordRefused, wordField, firstLine, shareLine, joined, shareLines, weights, printed, longestOutput}
+use Rattle.text.specs.Text.{blank, decimal, counted, entry, wordRefused, wordField, firstLine, shareLine, chained, shareLines, weights, printed, longestOutput}
 use Rattle.forms.proofs.Bounds.{Orderly}
 use Rattle.text.proofs.Decimals.{decimal-few, entry-few}
 use Rattle.text.proofs.Sharing.{first-few, boundary-first}
@@ -25,13 +25,13 @@ line-few s a b share first after =
     let three = counted-in 7 (b - a) lf (omega arith) (omega arith) in
     omega (arith, length-append (counted s blank) (counted a blank ++ counted (b - a) lf), length-append (counted a blank) (counted (b - a) lf))
 
-joined-few : (line : ℕ → List ℕ) (i k : ℕ) → ((s : ℕ) → s < i + k → length (line s) ≤ 21) → length (joined (rows line i k)) ≤ 21 * k
-unfolding joined
-joined-few line i zero short = omega arith
-joined-few line i (suc k) short =
+chained-few : (line : ℕ → List ℕ) (i k : ℕ) → ((s : ℕ) → s < i + k → length (line s) ≤ 21) → length (chained (rows line i k)) ≤ 21 * k
+unfolding chained
+chained-few line i zero short = omega arith
+chained-few line i (suc k) short =
     let here = short i (omega arith) in
-    let onward = joined-few line (suc i) k (λ s below. short s (omega arith)) in
-    omega (arith, length-append (line i) (joined (rows line (suc i) k)))
+    let onward = chained-few line (suc i) k (λ s below. short s (omega arith)) in
+    omega (arith, length-append (line i) (chained (rows line (suc i) k)))
 
 module _ (f : Form) (sound : Orderly f) where
   boundary-few : (s : ℕ) → s ≤ f .shares → boundary (f .shares) (weights f) s ≤ 1048576
@@ -43,7 +43,7 @@ module _ (f : Form) (sound : Orderly f) where
   form-few =
       let few = sound .few-shares in
       let lines : length (shareLines (boundary (f .shares) (weights f)) (f .shares)) ≤ 21 * f .shares =
-      joined-few _ 0 (f .shares)
+      chained-few _ 0 (f .shares)
       (λ s below. line-few s (boundary (f .shares) (weights f) s) (boundary (f .shares) (weights f) (s + 1)) (omega arith) (boundary-few s (omega arith)) (boundary-few (s + 1) (omega arith))) in
       omega (arith, first-few f, length-append (firstLine f) (shareLines (boundary (f .shares) (weights f)) (f .shares)))
 

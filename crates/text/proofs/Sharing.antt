@@ -12,7 +12,7 @@ use Rattle.shares.specs.Shares.{boundary}
 use Rattle.shares.proofs.Promised.{promised}
 use Rattle.forms.specs.declared.Form.{Form}
 use Rattle.fields.specs.Fields.{lf}
-use Rattle.text.specs.Text.{blank, counted, entry, wordOrder, wordSite, wordModel, wordRoots, wordLevel, wordLeaves, wordShares, firstLine, shareLine, joined, shareLines, weights, printed}
+use Rattle.text.specs.Text.{blank, counted, entry, wordOrder, wordSite, wordModel, wordRoots, wordLevel, wordLeaves, wordShares, firstLine, shareLine, chained, shareLines, weights, printed}
 use Rattle.text.specs.Inner.{spelled}
 use Rattle.forms.proofs.Bounds.{Orderly}
 use Rattle.text.proofs.Decimals.{entry-few}
@@ -41,7 +41,7 @@ rows-alike g h i (suc k) alike =
 
 lines-alike : (start start′ : ℕ → ℕ) (P : ℕ) → ((s : ℕ) → s ≤ P → start s ≡ start′ s) → shareLines start P ≡ shareLines start′ P
 lines-alike start start′ P alike =
-    ap joined
+    ap chained
     (rows-alike _ _ 0 P (λ s below. ap₂ (shareLine s) (alike s (omega arith)) (alike (s + 1) (omega arith))))
 
 -- what is spelled is what is printed

@@ -1,4 +1,4 @@
--- Inner contracts: what the code's own functions ask and answer. A reader of the promises may skip this file. Definitions only.
+-- Inner contracts: what functions ask and answer that only this house calls. A reader of the promises may skip this file. Definitions only.
 --
 --   Put t at l l′ r  the bytes t stand in l′ from at on, what lies past the end of l left out, and r is where they end
 --   spelled o        the bytes of `printed`, where share s of equal weights begins at leaf s·n / p: the thesis's formula 27

@@ -88,12 +88,12 @@ firstLine f =
 abbrev pub shareLine : ℕ → ℕ → ℕ → List ℕ
 shareLine s a b = counted s blank ++ (counted a blank ++ counted (b - a) lf)
 
-unfoldable pub joined : List (List ℕ) → List ℕ
-joined [] = []
-joined (l ∷ ls) = l ++ joined ls
+unfoldable pub chained : List (List ℕ) → List ℕ
+chained [] = []
+chained (l ∷ ls) = l ++ chained ls
 
 abbrev pub shareLines : (ℕ → ℕ) → ℕ → List ℕ
-shareLines start P = joined (rows (λ s. shareLine s (start s) (start (s + 1))) 0 P)
+shareLines start P = chained (rows (λ s. shareLine s (start s) (start (s + 1))) 0 P)
 
 abbrev pub weights : Form → List ℕ
 weights f = map (λ (v : Leaf). 1) (uniformList CHILDREN HIGHEST (f .roots) (f .level))

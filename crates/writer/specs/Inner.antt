@@ -1,4 +1,4 @@
--- Inner contracts: what the code's own functions ask and answer. A reader of the promises may skip this file.
+-- Inner contracts: what functions ask and answer that only this house calls. A reader of the promises may skip this file.
 -- Here: the file of a list by its levels alone. Definitions only.
 --
 --   levelFile K ls      the file of a list of K roots whose leaves have the levels ls

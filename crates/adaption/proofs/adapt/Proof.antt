@@ -76,7 +76,7 @@ returns-5 c =
     let sound = sym (told .before .before .check-list .ensures) ∙ ap passOf (told .enum-told .given .1) in
     let judged = c .before .before .check in
     not-adapted (a .k) cs (a .marks .now) m _ _ (marks-refused (a .k) cs (a .marks .now) m long equal sound _ _
-    (sym (judged .ensures) ∙ fault-taken (judged .result .number) (judged .result .place) passed (c .if4 .taken)))
+    (sym (judged .ensures .stands) ∙ fault-taken (judged .result .number) (judged .result .place) passed (c .if4 .taken)))
 
 count-requires : tie.Need-count-requires
 count-requires c κs =
@@ -88,7 +88,7 @@ count-requires c κs =
     let equal = sym (told .before .before .before .before .equal-lengths .ensures) ∙ not-false (told .before .before .before .before .equal-lengths .result) (told .before .before .before .if3 .left) in
     let sound = sym (told .before .before .check-list .ensures) ∙ ap passOf (told .enum-told .given .1) in
     let judged = c .before .before .check in
-    let right = sym (judged .ensures) ∙ fault-none (judged .result .number) (judged .result .place) passed (c .if4 .left) in
+    let right = sym (judged .ensures .stands) ∙ fault-none (judged .result .number) (judged .result .place) passed (c .if4 .left) in
     (omega arith, list-ready (a .k) cs (a .marks .now) m long equal sound right)
 
 returns-6 : tie.Need-returns-6
@@ -102,7 +102,7 @@ returns-6 c =
     let equal = sym (told .before .before .before .before .equal-lengths .ensures) ∙ not-false (told .before .before .before .before .equal-lengths .result) (told .before .before .before .if3 .left) in
     let sound = sym (told .before .before .check-list .ensures) ∙ ap passOf (told .enum-told .given .1) in
     let judged = at-before .check in
-    let right = sym (judged .ensures) ∙ fault-none (judged .result .number) (judged .result .place) passed (c .before .before .if4 .left) in
+    let right = sym (judged .ensures .stands) ∙ fault-none (judged .result .number) (judged .result .place) passed (c .before .before .if4 .left) in
     not-adapted (a .k) cs (a .marks .now) m 15 0
     (too-many-15 (a .k) cs (a .marks .now) m long equal sound right (c .before .count .result) (c .before .count .ensures) (c .if5 .taken))
 
@@ -117,7 +117,7 @@ returns-7 c =
     let equal = sym (told .before .before .before .before .equal-lengths .ensures) ∙ not-false (told .before .before .before .before .equal-lengths .result) (told .before .before .before .if3 .left) in
     let sound = sym (told .before .before .check-list .ensures) ∙ ap passOf (told .enum-told .given .1) in
     let judged = at-before .check in
-    let right = sym (judged .ensures) ∙ fault-none (judged .result .number) (judged .result .place) passed (c .before .before .before .if4 .left) in
+    let right = sym (judged .ensures .stands) ∙ fault-none (judged .result .number) (judged .result .place) passed (c .before .before .before .if4 .left) in
     not-adapted (a .k) cs (a .marks .now) m 14 _
     (no-room-14 (a .k) cs (a .marks .now) m long equal sound right (c .before .before .count .result) (c .before .before .count .ensures) (c .before .if5 .left) (c .if6 .taken))
 
@@ -133,7 +133,7 @@ write-requires c κs =
     let equal = sym (told .before .before .before .before .equal-lengths .ensures) ∙ not-false (told .before .before .before .before .equal-lengths .result) (told .before .before .before .if3 .left) in
     let sound = sym (told .before .before .check-list .ensures) ∙ ap passOf (told .enum-told .given .1) in
     let judged = at-before .check in
-    let right = sym (judged .ensures) ∙ fault-none (judged .result .number) (judged .result .place) passed (at-if4 .if4 .left) in
+    let right = sym (judged .ensures .stands) ∙ fault-none (judged .result .number) (judged .result .place) passed (at-if4 .if4 .left) in
     let counted = c .before .before .before .before .before .count in (
       omega arith,
       (
@@ -167,7 +167,7 @@ returns-8 c =
     let equal = sym (told .before .before .before .before .equal-lengths .ensures) ∙ not-false (told .before .before .before .before .equal-lengths .result) (told .before .before .before .if3 .left) in
     let sound = sym (told .before .before .check-list .ensures) ∙ ap passOf (told .enum-told .given .1) in
     let judged = at-before .check in
-    let right = sym (judged .ensures) ∙ fault-none (judged .result .number) (judged .result .place) passed (at-if4 .if4 .left) in
+    let right = sym (judged .ensures .stands) ∙ fault-none (judged .result .number) (judged .result .place) passed (at-if4 .if4 .left) in
     let counted = at-count .count in
     is-adapted (a .k) cs (a .marks .now) m long equal sound right (counted .result) (counted .ensures) (at-if5 .if5 .left) (at-if6 .if6 .left) _
     (at-write .write .ensures)

@@ -11,6 +11,7 @@ use Rattle.sounding.specs.Answers.{spotOf}
 use Rattle.sounding.specs.Inner.{runOf}
 use Rattle.format.proofs.Taking.{run-taken}
 use Rattle.format.proofs.Spots.{few-levels, fits-whole}
+use Rattle.format.proofs.Faults.{run-fault}
 use Rattle.sounding.proofs.Counting.{Going, going-start, going-next, going-stops, going-ends, told}
 use Rattle.sounding.proofs.walk.runs.Statement.{statement}
 use Rattle.sounding.proofs.walk.runs.Tie as tie
@@ -96,6 +97,7 @@ returns c =
     told _ _ (l .before)
     (going-stops (2 ^ (a .bits)) (a .highest) (a .k) (pow-pos (a .bits)) (a .bytes .now) (a .runs) (a .at) (a .runs - l .kept) w (l .inv .1)
     (omega (arith, c .before .before .before .before .loop-test .taken)) _ _ found)
+    (λ none. absurd (omega (arith, run-fault (2 ^ (a .bits)) (a .highest) (a .bytes .now) (a .k) w _ _ found)))
 
 add-kept : tie.Need-add-kept Inv-loop μ-loop
 add-kept c =
@@ -128,7 +130,7 @@ returns-2 c =
     let end =
     going-ends (2 ^ (a .bits)) (a .highest) (a .k) (pow-pos (a .bits)) (a .bytes .now) (a .runs) (a .at) (a .runs - l .kept) w (l .inv .1)
     (omega (arith, c .before .loop-test .left)) in
-    told _ _ (l .before) (end .0, end .1 ∙ sym (c .ended .ensures))
+    told _ _ (l .before) (end .0, end .1 ∙ sym (c .ended .ensures .stands)) (c .ended .ensures .unplaced)
 
 pub runs-spec : {M : Type 1} → statement M
 runs-spec =

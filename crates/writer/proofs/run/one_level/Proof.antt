@@ -35,14 +35,13 @@ loop-again : tie.Need-loop-again Inv-loop μ-loop
 loop-again c =
     let at-loop = c .before .before .before in
     let start = at-loop .before in
-    let a = start .args in
-    (
-  omega arith,
-  ⊎-elim
-      (λ w. one-other (a .levels .now) (a .level) (a .from) (at-loop .loop .t) (c .if1 .same) (w .1))
-      (λ w still. one-more (a .levels .now) (a .level) (a .from) (at-loop .loop .t) ((at-loop .loop .inv .1) (sym (w .1) ∙ still)) (w .0 .left))
-      (c .if1 .came),
-)
+    let a = start .args in (
+      omega arith,
+      ⊎-elim
+          (λ w. one-other (a .levels .now) (a .level) (a .from) (at-loop .loop .t) (c .if1 .same) (w .1))
+          (λ w still. one-more (a .levels .now) (a .level) (a .from) (at-loop .loop .t) ((at-loop .loop .inv .1) (sym (w .1) ∙ still)) (w .0 .left))
+          (c .if1 .came),
+    )
 
 returns : tie.Need-returns Inv-loop μ-loop
 returns c =
