@@ -4,7 +4,7 @@
 --   isBalanced vs  so do any two of vs that follow one another; balancedAfter u vs: and u and the first of vs
 --   balanced       the call: the tests of a list call, then yes or no
 --   Balanced vs    the paper's sentence as a statement, Near u v for two leaves
---   ExactBalance          yes is exactly that
+--   ExactBalance   yes is exactly that
 --
 -- Assumes nothing.
 use mathlib.Core.Path.{_≡_}

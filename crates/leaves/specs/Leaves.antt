@@ -1,6 +1,6 @@
 -- Document 01, "Leaf lists": leaves, their columns, and what a valid list is. n is the number of children, L the highest level. Definitions only.
 --
---   CHILDREN         8: the leaves are prisms
+--   CHILDREN         8: the leaves are prisms, and this is their number of children
 --   Leaf             "root, level, position"
 --   nth vs j         leaf j of a list
 --   Columns          "A list is three columns .. root, level, position": those of a list, or those lent for one

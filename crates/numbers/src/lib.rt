@@ -5,7 +5,7 @@ ghost use lib.ListN.{length};
 ghost use Rattle.numbers.specs.Numbers.{bytesOf, numberAt};
 ghost use Rattle.numbers.specs.Answers.{foundOf};
 
-// A number that was read: its value and the offset of what follows it, or the refusal's number and place.
+// A number that was found: its value and the offset of what follows it, or the refusal's number and place.
 pub enum FoundNumber {
     Is(u32, usize),
     Refused(u8, u64),
