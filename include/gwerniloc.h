@@ -317,9 +317,9 @@ gw_number_result gw_list_balanced(uint16_t k, const uint16_t *root, size_t root_
  *  consecutive leaves that are a family and all carry 2 give their parent, any other leaf is kept. The new list stands at
  *  the front of the new columns; the value is its number of leaves. Refuses: 17 roots outside 1 to 4,096; 11 columns
  *  unequal, empty or over 1,048,576, marks of another length, new columns unequal; then at each leaf (place = leaf)
- *  1 level, 5 position, 12 it does not start where the one before it ended; 12 at the length of a list that ends early; then
- *  at any leaf 13 its mark is above 2; then at any leaf 7 it is refined at level 21; 15 the new list has over 1,048,576
- *  leaves; 14 the new columns are too short (place = entries needed). */
+ *  1 level, 5 position, 12 it does not start where the one before it ended; 12 at the length of a list that ends early;
+ *  then at any leaf 13 its mark is above 2; then at any leaf 7 it is refined at level 21; 15 the new list has over
+ *  1,048,576 leaves; 14 the new columns are too short (place = entries needed). */
 gw_number_result gw_list_adapt(uint16_t k, const uint16_t *root, size_t root_length, const uint8_t *level,
                                size_t level_length, const uint64_t *position, size_t position_length,
                                const uint8_t *mark, size_t mark_length,
