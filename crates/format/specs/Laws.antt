@@ -13,7 +13,7 @@ use Prim.Native.Nat.{ℕ, _≤_, _<_}
 use lib.ListN.{length}
 use Rattle.paper.specs.Outcome.{accepted, refused}
 use Rattle.leaves.specs.Leaves.{Leaf, Valid}
-use Rattle.leaves.specs.Calls.{limit}
+use Rattle.leaves.specs.Calls.{limit, most}
 use Rattle.numbers.specs.Laws.{Bytes}
 use Rattle.format.specs.File.{Run, runsOf, runsFile, AreRuns}
 use Rattle.format.specs.Reading.{Grid, gridAt}
@@ -21,7 +21,7 @@ use Rattle.format.specs.Reading.{Grid, gridAt}
 module _ (n L : ℕ) where
   pub record ValidGrid (g : Grid) : Type 0 where
     pub some-root : 0 < g .roots
-    pub few-roots : g .roots ≤ 4096
+    pub few-roots : g .roots ≤ most
     pub few : length (g .leaves) ≤ limit
     pub valid : Valid n L (g .roots) (g .leaves)
 

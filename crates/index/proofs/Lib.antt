@@ -3,3 +3,4 @@ pub mod Rise
 pub mod Overlay
 pub mod Rank
 pub mod Controls
+pub mod Bey

@@ -1,2 +1,3 @@
 pub mod Index
 pub mod Rank
+pub mod Bey

@@ -5,7 +5,8 @@
 --   1 level above the highest; 5 position not below children^level; 11 columns of one list unequal, input list empty or over 1,048,576;
 --   12 list doesn't cover as stated; 14 no room, place = entries needed; 15 result over 1,048,576 leaves; 17 roots outside 1 to 4,096
 --
---   limit            1,048,576
+--   limit            1,048,576: the most leaves
+--   most             4,096: the most roots or shares
 --   outOfRange k     "outside 1 to 4,096"
 --   starts K c v     the leaf v starts where the list has come to c, in one of the K roots
 --   leafFault K c v  the first of 1, 5, 12 that the leaf v has where the list has come to c
@@ -32,8 +33,11 @@ use Rattle.leaves.specs.Leaves.{CHILDREN, Leaf, Columns, leaves, equalCo
 abbrev pub limit : ℕ
 limit = 1048576
 
+abbrev pub most : ℕ
+most = 4096
+
 abbrev pub outOfRange : ℕ → Bool
-outOfRange k = eqb k 0 || ltb 4096 k
+outOfRange k = eqb k 0 || ltb most k
 
 module _ (n L : ℕ) where
   -- the leaf starts where the list has come to, in one of the K roots

@@ -18,7 +18,7 @@ use lib.ListN.{length}
 use Rattle.paper.specs.Outcome.{Outcome, accepted, passed}
 use Rattle.paper.specs.Exactly.{ExactlyOne}
 use Rattle.leaves.specs.Leaves.{Leaf, nth, Columns, leaves, room, Valid, uniformList, span}
-use Rattle.leaves.specs.Calls.{limit, listed, checkList}
+use Rattle.leaves.specs.Calls.{limit, most, listed, checkList}
 
 module _ (n L : ℕ) where
   pub record Holds (v : Leaf) (r q : ℕ) : Type 0 where
@@ -33,7 +33,7 @@ module _ (n L : ℕ) where
 
   pub record ValidList (K : ℕ) (cs : Columns) : Type 0 where
     pub some-root : 0 < K
-    pub few-roots : K ≤ 4096
+    pub few-roots : K ≤ most
     pub levels-long : length (cs .roots) ≡ length (cs .levels)
     pub positions-long : length (cs .roots) ≡ length (cs .positions)
     pub some : 0 < room cs

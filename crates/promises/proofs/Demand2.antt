@@ -15,7 +15,7 @@ use Rattle.triangle.specs.Elements.{triangle}
 use Rattle.prism.specs.Elements.{prism}
 use Rattle.line.proofs.Faces.{line-faces}
 use Rattle.triangle.proofs.Faces.{triangle-faces}
-use Rattle.triangle.proofs.Bey.{bey}
+use Rattle.index.proofs.Bey.{bey}
 use Rattle.prism.proofs.Faces.{prism-faces}
 use Rattle.prism.proofs.Definition27.{definition-27}
 use Rattle.index.specs.Index.{lineIndex, triangleIndex, prismIndex}

@@ -23,7 +23,7 @@ use Rattle.tree.specs.Anchors.{HIGHEST}
 use Rattle.tree.specs.Shape.{Shape}
 use Rattle.tree.specs.Ancestors.{Ancestors}
 use Rattle.tree.specs.Laws.{Lawful, RoundTrips, Positions, TotalOrder, Families, Faces}
-use Rattle.triangle.specs.Points.{Bey}
+use Rattle.index.specs.Bey.{Bey}
 use Rattle.index.specs.Index.{lineIndex, triangleIndex, prismIndex}
 use Rattle.index.specs.Rank.{Ranked}
 use Rattle.leaves.specs.Leaves.{CHILDREN}

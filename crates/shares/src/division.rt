@@ -7,6 +7,7 @@ ghost use lib.ListN.{length};
 ghost use Rattle.paper.specs.Outcome.{passed, checks};
 ghost use Rattle.paper.specs.Memory.{written};
 ghost use Rattle.paper.specs.Readings.{checksOf};
+ghost use Rattle.leaves.specs.Calls as lists;
 ghost use Rattle.shares.specs.Shares as shares;
 ghost use Rattle.shares.specs.Calls.{weightFault};
 ghost use Rattle.shares.specs.Inner.{Within, Stopped};
@@ -65,7 +66,7 @@ fn first_zero(weights: &[u16]) -> Fault
 
 // The whole weight, part by part.
 fn whole_weight(weights: &[u16]) -> u64
-    requires { ⌜ length (now weights) ≤ 1048576 ⌝ }
+    requires { ⌜ length (now weights) ≤ lists.limit ⌝ }
     ensures { λ r. ⌜ (r ≡ shares.total (now (weights .entry))) × (r ≤ 65535 * length (now (weights .entry))) ⌝ }
 {
     let mut sum = 0;
@@ -80,7 +81,7 @@ fn whole_weight(weights: &[u16]) -> u64
 
 // Where the part that starts at a leaf count ends: 65,536 leaves on, or at the last.
 fn part_end(count: usize, all: usize) -> usize
-    requires { ⌜ (count < all) × (all ≤ 1048576) ⌝ }
+    requires { ⌜ (count < all) × (all ≤ lists.limit) ⌝ }
     ensures { λ r. ⌜ (count < r) × ((r ≤ all) × (r ≤ count + 65536)) ⌝ }
 {
     if all <= count + 65536 {
@@ -143,7 +144,7 @@ fn advance(weights: &[u16], from: Reach, limit: u64) -> Reach
 
 // The boundaries of p shares, from 0 to p: p times a sum is within s times the whole weight where the sum is within the limit of s.
 pub(crate) fn divide(p: u16, weights: &[u16], boundaries: &mut [u32])
-    requires { ⌜ (0 < p) × ((p ≤ 4096) × ((length (now weights) ≤ 1048576) × (p < length (now boundaries)))) ⌝ }
+    requires { ⌜ (0 < p) × ((p ≤ lists.most) × ((length (now weights) ≤ lists.limit) × (p < length (now boundaries)))) ⌝ }
     ensures { λ _. ⌜ now (boundaries .exit) ≡ written (shares.boundaries p (now (weights .entry))) (now (boundaries .entry)) ⌝ }
 {
     let whole = whole_weight(weights);

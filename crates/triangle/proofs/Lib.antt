@@ -2,5 +2,4 @@ pub mod Laws
 pub mod Units
 pub mod Across
 pub mod Loops
-pub mod Bey
 pub mod Faces

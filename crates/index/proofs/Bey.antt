@@ -5,11 +5,12 @@ use native.Mathlib.Omega.{arith}
 use lib.ListN.{getD}
 use Rattle.tree.proofs.Anchor.{side-suc}
 use Rattle.tree.proofs.Cases.{below-3}
-use Rattle.triangle.specs.declared.Triangle.{Triangle}
-use Rattle.triangle.specs.Elements.{triangleTo, child}
-use Rattle.triangle.specs.Points.{corner, Midpoint, ends, beyChild, beyNumber, Bey}
 use Rattle.rows.proofs.Tables.{each-child}
+use Rattle.triangle.specs.declared.Triangle.{Triangle}
+use Rattle.triangle.specs.Elements.{triangleTo, child}
+use Rattle.triangle.specs.Points.{corner}
 use Rattle.triangle.proofs.Laws.{known}
+use Rattle.index.specs.Bey.{Midpoint, ends, beyChild, beyNumber, Bey}
 
 module _ (L l x y : ℕ) (room : l < L) where
   abbrev typed : ℕ → Triangle
