@@ -1,8 +1,8 @@
 -- Document 01, "Elements": "This is Bey's rule (thesis, definition 3) in the order of the index". Definitions only.
 --
 --   Midpoint m a b     m lies half way between a and b
---   beyChild c i       the thesis's definition 3: the corners of Bey's child i of the triangle with the corners c, as pairs of corner
---                      numbers whose midpoints they are (its T0 reads x2 where x02 is meant)
+--   beyChild i         the thesis's definition 3: the corners of Bey's child i, as pairs of the parent's corner numbers whose
+--                      midpoints they are (its T0 reads x2 where x02 is meant)
 --   beyNumber t i      which of Bey's children is child i by curve number, of a parent of type t: "Bey's numbers are not curve numbers"
 --   Bey L              the children are Bey's
 --

@@ -1,4 +1,4 @@
--- What finds an outcome is one Fault: a fault has its number and place, and none is 0 and 0. Assumes nothing.
+-- At most one Fault finds an outcome: a fault has its number and place, and none is 0 and 0. Assumes nothing.
 use mathlib.Core.Path.{_≡_, ap₂, _∙_, sym}
 use Prim.Native.Nat.{ℕ}
 use native.Mathlib.Decide.{ℕ-discrete}

@@ -1,5 +1,6 @@
 -- Document 01, "Refusal numbers": "lent memory keeps its contents. An accepted call writes its result at the front of the lent columns or
--- bytes, and no further." The form of the contract of every call of the paper that lends memory. Definitions only.
+-- bytes, and no further." The form of the contract of every call of the paper that writes into lent memory. Definitions
+-- only.
 --
 --   written front l   the lent column l with front at its front
 --   roomFor k room a  "14 no room; place = entries or bytes needed": accepted with a where room holds k of them

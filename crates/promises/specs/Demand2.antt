@@ -5,7 +5,7 @@
 --   Elements      what is promised of one shape, with its index and its faces
 --   Determined f  two answers with the same reading are the same answer
 --   OfElements    demand 2, of the elements of all three shapes
---   Answers       of every enum that a public call answers; and an outcome is found by one Fault
+--   Answers       of every enum that a public call answers; and at most one Fault finds an outcome
 --   OfLists       demand 2, of leaf lists: the list check is exact, each smallest cell lies in one leaf, a leaf's relatives are the
 --                 prism's, adaption is the paper's one pass, boundaries are the paper's, balanced is the paper's
 --   OfOrders      of the order program: the first 71 bytes decide, its shares are the list's own, its output has room
