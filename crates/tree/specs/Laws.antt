@@ -7,9 +7,11 @@
 --   Positions      the positions of parent, child, successor, first and last descendant; that the descendants are valid and of the asked
 --                  level (of parent and child `Lawful` says it)
 --   TotalOrder     the order of two is a total order
---   Faces          a face neighbour lies across: it is another valid element of the level and shares that whole face; what lies across is
---                  the neighbour, so refused 10 means that nothing does; its neighbour across its own face is the element again.
---                  `points` gives the corner points of a face, `faceAcross` its number as the neighbour has it
+--   Across e f i j   face i of e is face j of the other element f
+--   Faces          a face neighbour lies across: it is another valid element of the level and shares that whole face; whoever has the face
+--                  as one of its own is the neighbour, so refused 10 means that nobody does; its neighbour across its own face is the
+--                  element again. `points` gives the corner points of a face, `faceAcross` its number as the neighbour has it. The points
+--                  stand in the order of the corners, first by z and at one z by x + y, which rises: faces with the same points have one list
 --   Families       family is yes exactly for the children of one parent, in order
 --
 -- Assumes nothing.
@@ -82,17 +84,17 @@ module _ {E : Type 0} (S : Shape E) where
     pub only-children : (es : List E) → ((e : E) → List·Memᴰ e es → Sound e) → family S es ≡ true
         → (f : E) × (Sound f × S .level f < S .highest × es ≡ childrenOf f)
 
-  module _ {P : Type 0} (points : E → ℕ → List P) (faceAcross : ℕ → ℕ) where
-    -- f lies across face i of e
-    pub record Across (e f : E) (i : ℕ) : Type 0 where
+  module _ {P : Type 0} (points : E → ℕ → List P) where
+    -- face i of e is face j of the other element f
+    pub record Across (e f : E) (i j : ℕ) : Type 0 where
       pub sound : Sound f
       pub level : S .level f ≡ S .level e
-      pub shared : points e i ≡ points f (faceAcross i)
-      -- face 1 of a triangle is face 1 across too, so the element itself has it
+      pub face : j < S .faces
+      pub shared : points e i ≡ points f j
       pub other : e ≡ f → ⊥
 
-    pub record Faces : Type 0 where
+    pub record Faces (faceAcross : ℕ → ℕ) : Type 0 where
       pub either : (e : E) (i : ℕ) → (S .neighbour e i ≡ refused 10 0) ⊎ ((f : E) × (S .neighbour e i ≡ accepted f))
-      pub across : (e f : E) (i : ℕ) → Sound e → i < S .faces → S .neighbour e i ≡ accepted f → Across e f i
+      pub across : (e f : E) (i : ℕ) → Sound e → i < S .faces → S .neighbour e i ≡ accepted f → Across e f i (faceAcross i)
       pub back : (e f : E) (i : ℕ) → Sound e → i < S .faces → S .neighbour e i ≡ accepted f → S .neighbour f (faceAcross i) ≡ accepted e
-      pub only : (e f : E) (i : ℕ) → Sound e → i < S .faces → Across e f i → S .neighbour e i ≡ accepted f
+      pub only : (e f : E) (i j : ℕ) → Sound e → i < S .faces → Across e f i j → (S .neighbour e i ≡ accepted f) × (j ≡ faceAcross i)

@@ -2,4 +2,5 @@ pub mod Laws
 pub mod Units
 pub mod Across
 pub mod Loops
+pub mod FacePoints
 pub mod Faces
