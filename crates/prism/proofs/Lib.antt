@@ -6,3 +6,5 @@ pub mod Around
 pub mod Along
 pub mod Faces
 pub mod Definition27
+pub mod Constants
+pub mod Inside

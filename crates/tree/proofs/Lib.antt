@@ -11,3 +11,4 @@ pub mod Walk
 pub mod Sibling
 pub mod Call
 pub mod Faces
+pub mod Apart

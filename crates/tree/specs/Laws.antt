@@ -13,12 +13,14 @@
 --                  element again. `points` gives the corner points of a face, `faceAcross` its number as the neighbour has it. The points
 --                  stand in the order of the corners, first by z and at one z by x + y, which rises: faces with the same points have one list
 --   Families       family is yes exactly for the children of one parent, in order
+--   Constants      CORNERS and FACES count the paper's own lists: the corners that it lists are those with a number below CORNERS, all
+--                  different, and so with the faces
 --
 -- Assumes nothing.
 use mathlib.Core.Path.{_≡_}
 use mathlib.Core.Logic.{_↔_, _⊎_}
 use mathlib.Core.Bool.{true}
-use mathlib.Core.List.{List, List·Memᴰ}
+use mathlib.Core.List.{List, List·Memᴰ, List·Nodup}
 use Prim.Native.Nat.{ℕ, suc, _+_, _-_, _*_, _/_, _^_, _≤_, _<_}
 use Rattle.paper.specs.Outcome.{accepted, refused, less, same, greater, rows}
 use Rattle.tree.specs.Shape.{Shape}
@@ -98,3 +100,9 @@ module _ {E : Type 0} (S : Shape E) where
       pub across : (e f : E) (i : ℕ) → Sound e → i < S .faces → S .neighbour e i ≡ accepted f → Across e f i (faceAcross i)
       pub back : (e f : E) (i : ℕ) → Sound e → i < S .faces → S .neighbour e i ≡ accepted f → S .neighbour f (faceAcross i) ≡ accepted e
       pub only : (e f : E) (i j : ℕ) → Sound e → i < S .faces → Across e f i j → (S .neighbour e i ≡ accepted f) × (j ≡ faceAcross i)
+
+  pub record Constants {P : Type 0} (corner : E → ℕ → P) (corners : E → List P) (points : E → ℕ → List P) (faces : E → List (List P)) : Type 0 where
+    pub corners-are : (e : E) → corners e ≡ rows (corner e) 0 (S .corners)
+    pub corners-apart : (e : E) → List·Nodup (corners e)
+    pub faces-are : (e : E) → faces e ≡ rows (points e) 0 (S .faces)
+    pub faces-apart : (e : E) → List·Nodup (faces e)

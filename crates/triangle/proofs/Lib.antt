@@ -4,3 +4,5 @@ pub mod Across
 pub mod Loops
 pub mod FacePoints
 pub mod Faces
+pub mod Constants
+pub mod Inside
