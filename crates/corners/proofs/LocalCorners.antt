@@ -1,23 +1,22 @@
--- The corners of an element lie within the root: its anchor does with a side to spare, and for type 1 y is below x by a side at least.
--- Assumes nothing.
+-- The corner of an element as the code finds it: none or one side from the anchor in each coordinate, by type and number. The anchor lies
+-- within the root with a side to spare. Assumes nothing.
 use mathlib.Core.Path.{_≡_, sym, ap, ap₂, _∙_, subst⁻¹}
 use mathlib.Core.List.{List, [], _∷_}
 use Prim.Native.Nat.{ℕ, zero, suc, _+_, _*_, _/_, _%_, _^_, _≤_, _<_}
-use native.Mathlib.Nat.{mul-le-mul-right, add-mul, mod-lt}
+use native.Mathlib.Nat.{mul-le-mul-right}
 use native.Mathlib.Omega.{arith}
-use lib.Dec.{lit<, lit≤}
+use lib.Dec.{lit≤}
 use lib.ListN.{getD}
 use Rattle.tree.specs.Anchors.{side}
 use Rattle.tree.specs.Laws.{Sound}
-use Rattle.tree.proofs.Anchor.{grid-units, end-inside}
+use Rattle.tree.proofs.Anchor.{end-inside}
 use Rattle.triangle.specs.Points.{Point, point, cornersBy}
-use Rattle.triangle.proofs.Laws.{known-units}
+use Rattle.triangle.proofs.Inside.{known-sides}
 use Rattle.prism.specs.declared.Prism.{Prism}
 use Rattle.prism.specs.Elements.{prism, prismTo, plan}
 use Rattle.prism.specs.Points as prisms
 use Rattle.prism.proofs.Laws.{grids}
 use Rattle.corners.specs.declared.work.Local.{Local}
-use Rattle.corners.specs.Laws.{InsideRoot}
 use Rattle.corners.specs.Inner.{CornerRow, localOf}
 
 -- what the checks on an element leave room for
@@ -27,9 +26,6 @@ pub record Room (e : Prism) (h : ℕ) : Type 0 where
   pub room-x : e .x + h ≤ 2 ^ 21
   pub room-z : e .z + h ≤ 2 ^ 21
 
-scaled-up : (h u v t x y : ℕ) → u * h ≡ x → v * h ≡ y → v + t ≤ u → y + t * h ≤ x
-scaled-up h u v t x y at-x at-y inside = omega (arith, mul-le-mul-right h inside, add-mul v t h)
-
 pub room : (e : Prism) → Sound prism e → Room e (side 21 (e .level))
 unfolding prismTo
 room e sound =
@@ -37,9 +33,7 @@ room e sound =
     let below = known .0 in
     record {
       two-types = below .typed;
-      below = scaled-up (side 21 (e .level)) (e .x / side 21 (e .level)) (e .y / side 21 (e .level)) (e .kind) (e .x) (e .y)
-          (grid-units 21 (e .level) (e .x) (below .grid-x)) (grid-units 21 (e .level) (e .y) (below .grid-y))
-          (known-units 21 (plan e) below);
+      below = known-sides 21 (plan e) below;
       room-x = end-inside 21 (e .level) (e .x) (below .shallow) (below .grid-x);
       room-z = end-inside 21 (e .level) (e .z) (below .shallow) (known .1);
     }
@@ -110,23 +104,3 @@ found e i h s same row =
     λ k. sym (row .placed k (e .x) (e .y)) in
     let lifted : ℕ → Point → Local = λ k p. record { x = p .x; y = p .y; z = e .z + i / 3 * k } in
     ap (lifted h) (at-h h) ∙ ap (λ (k : ℕ). lifted k (planAt (e .kind) (i % 3) k (e .x) (e .y))) same
-
-inside-plan : (t k h x y : ℕ) → t < 2 → k < 3 → y + t * h ≤ x → x + h ≤ 2 ^ 21
-    → (planAt t k h x y .y ≤ planAt t k h x y .x) × (planAt t k h x y .x ≤ 2 ^ 21)
-inside-plan zero zero h x y a b c d = (omega arith, omega arith)
-inside-plan zero (suc zero) h x y a b c d = (omega arith, omega arith)
-inside-plan zero (suc (suc zero)) h x y a b c d = (omega arith, omega arith)
-inside-plan zero (suc (suc (suc k))) h x y a b c d = absurd (omega arith)
-inside-plan (suc zero) zero h x y a b c d = (omega arith, omega arith)
-inside-plan (suc zero) (suc zero) h x y a b c d = (omega arith, omega arith)
-inside-plan (suc zero) (suc (suc zero)) h x y a b c d = (omega arith, omega arith)
-inside-plan (suc zero) (suc (suc (suc k))) h x y a b c d = absurd (omega arith)
-inside-plan (suc (suc t)) k h x y a b c d = absurd (omega arith)
-
-pub corner-inside : (e : Prism) (i : ℕ) → Sound prism e → i < 6 → InsideRoot (prisms.corner 21 e i)
-corner-inside e i sound small =
-    let h = side 21 (e .level) in
-    let r = room e sound in
-    let plan = inside-plan (e .kind) (i % 3) h (e .x) (e .y) (r .two-types) (mod-lt i (lit< tt)) (r .below) (r .room-x) in
-    let once : i / 3 ≤ 1 = omega arith in
-    record { ordered = plan .0; across = plan .1; upwards = omega (arith, mul-le-mul-right h once, r .room-z) }

@@ -8,10 +8,10 @@ use native.Mathlib.Omega.{arith}
 use lib.Dec.{leb}
 use lib.IntN.{ℤ, pos, negsuc, natAbs}
 use borrow.Author.Tests.{leb-true}
+use Rattle.prism.specs.Points.{InRoot}
 use Rattle.corners.specs.declared.work.Axis.{Axis}
 use Rattle.corners.specs.declared.work.Local.{Local}
 use Rattle.corners.specs.CornerPoints.{within, q}
-use Rattle.corners.specs.Laws.{InsideRoot}
 use Rattle.corners.specs.Inner.{along, Near, mix, Heights, blend, cornerOf}
 use Rattle.corners.proofs.Differences.{Is, add, mul, sub, mul-right, rename, bound}
 
@@ -91,7 +91,7 @@ blend-bound t0 t1 t2 X Y tall ordered inside =
     rw back at (mean t0 t1 t2 Y (X - Y) (edge - X) tall (omega arith))
 
 -- one coordinate of a point within the root
-pub axis-bound : (a : Axis) (p : Local) → Near a → InsideRoot (cornerOf p) → natAbs (q (along a) (p .x) (p .y) (p .z)) ≤ 2 ^ 51
+pub axis-bound : (a : Axis) (p : Local) → Near a → InRoot 21 (cornerOf p) → natAbs (q (along a) (p .x) (p .y) (p .z)) ≤ 2 ^ 51
 axis-bound a p n inside =
     blend-bound (mix (a .v0) (a .v3) (p .z)) (mix (a .v1) (a .v4) (p .z)) (mix (a .v2) (a .v5) (p .z)) (p .x) (p .y)
     (record {
@@ -99,4 +99,4 @@ axis-bound a p n inside =
       tall1 = height (a .v1) (a .v4) (p .z) (n .near1) (n .near4) (inside .upwards);
       tall2 = height (a .v2) (a .v5) (p .z) (n .near2) (n .near5) (inside .upwards);
     })
-    (inside .ordered) (inside .across)
+    (inside .in-plan .ordered) (inside .in-plan .across)

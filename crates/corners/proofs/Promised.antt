@@ -8,6 +8,7 @@ use lib.IntN.{ℤ, pos, _*ℤ_}
 use Rattle.paper.specs.Outcome.{Outcome, accepted, refused}
 use Rattle.tree.proofs.RoundTrip.{at-sound}
 use Rattle.prism.proofs.Laws.{lawful}
+use Rattle.prism.proofs.Inside.{corner-in-root}
 use Rattle.tree.specs.Words.{elementAt}
 use Rattle.prism.specs.Elements.{prism, prismTo}
 use Rattle.prism.specs.Points as prisms
@@ -15,11 +16,10 @@ use Rattle.corners.specs.declared.Corner.{Corner}
 use Rattle.corners.specs.declared.Root.{Root}
 use Rattle.corners.specs.declared.Point.{Point}
 use Rattle.corners.specs.CornerPoints.{corner, rootWithin, q, coordinate, pointAt, cornerPoint}
-use Rattle.corners.specs.Laws.{Exact, Promised, InsideRoot, Small, AsDue, pointed}
+use Rattle.corners.specs.Laws.{Exact, Promised, Small, AsDue, pointed}
 use Rattle.corners.specs.Inner.{xs, ys, zs, localOf, cornerOf}
 use Rattle.corners.proofs.Offsets.{axis-bound}
 use Rattle.corners.proofs.Roots.{near-xs, near-ys, near-zs}
-use Rattle.corners.proofs.LocalCorners.{corner-inside}
 use Rattle.corners.proofs.Call.{point-accepted, point-refused-24}
 use Rattle.corners.proofs.RootCorners.{at-0, at-1, at-2, at-3, at-4, at-5, whole}
 use Rattle.corners.proofs.Exact as values
@@ -39,10 +39,10 @@ exact =
           values.unique x (coordinate z) _ _ (2 ^ 42) (lit< tt) (h .double) (values.coordinate-fits z) (h .value) (values.exact z small);
     }
 
-small : (r : Root) (c : prisms.Corner) → rootWithin r ≡ true → InsideRoot c → Small r c
+small : (r : Root) (c : prisms.Corner) → rootWithin r ≡ true → prisms.InRoot 21 c → Small r c
 small r c near inside =
     let p = localOf c in
-    let at-c : InsideRoot (cornerOf p) = record { ordered = inside .ordered; across = inside .across; upwards = inside .upwards } in
+    let at-c : prisms.InRoot 21 (cornerOf p) = record { in-plan = record { ordered = inside .in-plan .ordered; across = inside .in-plan .across }; upwards = inside .upwards } in
     record {
       in-x = axis-bound (xs r) p (near-xs r near) at-c;
       in-y = axis-bound (ys r) p (near-ys r near) at-c;
@@ -56,7 +56,7 @@ module _ (l p i : ℕ) (r : Root) (a : Point) (shallow : l ≤ 21) (below : p < 
 
   bound : Small r place
   unfolding prismTo
-  bound = small r place near (corner-inside (elementAt prism l p) i (at-sound prism (lawful 21) l p shallow below) six)
+  bound = small r place near (corner-in-root 21 (elementAt prism l p) i (at-sound prism (lawful 21) l p shallow below) six)
 
   due : cornerPoint l p i r ≡ accepted a → AsDue r place a
   due h =
@@ -118,6 +118,6 @@ promised =
       accepts = λ l p i r a b c near. point-accepted l p i r a b c near;
       answered = λ l p i r a shallow below six near. (due l p i r a shallow below six near, only-due l p i r a shallow below six near);
       exact = exact;
-      bounded = record { inside = corner-inside; small = small };
+      bounded = record { small = small };
       meaning = record { root's-own = own; shared = shared };
     }

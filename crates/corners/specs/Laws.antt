@@ -3,8 +3,8 @@
 --   IsQuotient x z   x is an f64 with exactly the value z / 2^42, "zero as +0": the sign is minus only below 0
 --   Exact            a coordinate has that value, and no other f64 has it
 --   AsDue r c a      each coordinate of the point a has exactly that value at the local corner c
---   InsideRoot c     a local corner within the root: Y <= X, none past the edge
---   Bounded          every corner of every element lies within the root, and |Q| <= 2^51 for it in each coordinate
+--   Bounded          |Q| <= 2^51 in each coordinate for every local corner in the root, where every corner of every element lies (`Refusal4` of
+--                    `prism/specs/Points.antt`)
 --   Meaning          the corners of the root element are the root's own six; two corners with the same local (X, Y, Z) get the
 --                    same point, whatever their levels
 --   Promised         all of it; what is accepted: any root with numbers from -512 to 512, "flat or folded"; and an answer is accepted
@@ -20,10 +20,8 @@ use lib.IntN.{ℤ, natAbs}
 use lib.Ieee.{Float, binary64, ofInt, fits}
 use lib.Ieee.Exact.{HasValue}
 use Rattle.paper.specs.Outcome.{accepted}
-use Rattle.tree.specs.Anchors.{HIGHEST, EDGE}
-use Rattle.tree.specs.Laws.{Sound}
+use Rattle.tree.specs.Anchors.{HIGHEST}
 use Rattle.tree.specs.Words.{elementAt}
-use Rattle.prism.specs.declared.Prism.{Prism}
 use Rattle.prism.specs.Elements.{CHILDREN, CORNERS, prism}
 use Rattle.prism.specs.Points as prisms
 use Rattle.corners.specs.declared.Corner.{Corner}
@@ -40,11 +38,6 @@ pub record Exact : Type 0 where
   pub is : (z : ℤ) → natAbs z ≤ 2 ^ 51 → IsQuotient (coordinate z) z
   pub only : (z : ℤ) (x : Float) → natAbs z ≤ 2 ^ 51 → IsQuotient x z → x ≡ coordinate z
 
-pub record InsideRoot (c : prisms.Corner) : Type 0 where
-  pub ordered : c .plan .y ≤ c .plan .x
-  pub across : c .plan .x ≤ EDGE
-  pub upwards : c .height ≤ EDGE
-
 -- Q of one coordinate at a local corner
 abbrev pub qAt : (Corner → ℤ) → Root → prisms.Corner → ℤ
 qAt coordinateOf r c = q (λ j. coordinateOf (corner r j)) (c .plan .x) (c .plan .y) (c .height)
@@ -55,8 +48,7 @@ pub record Small (r : Root) (c : prisms.Corner) : Type 0 where
   pub in-z : natAbs (qAt (λ v. v .z) r c) ≤ 2 ^ 51
 
 pub record Bounded : Type 0 where
-  pub inside : (e : Prism) (i : ℕ) → Sound prism e → i < CORNERS → InsideRoot (prisms.corner HIGHEST e i)
-  pub small : (r : Root) (c : prisms.Corner) → rootWithin r ≡ true → InsideRoot c → Small r c
+  pub small : (r : Root) (c : prisms.Corner) → rootWithin r ≡ true → prisms.InRoot HIGHEST c → Small r c
 
 -- each coordinate of the point a has exactly the value Q / 2^42 at the local corner c
 pub record AsDue (r : Root) (c : prisms.Corner) (a : Point) : Type 0 where

@@ -14,7 +14,7 @@ ghost use Rattle.triangle.specs.Elements as triangles;
 ghost use Rattle.prism.specs.Elements.{CORNERS, prism};
 ghost use Rattle.prism.specs.Points as prisms;
 ghost use Rattle.corners.specs.CornerPoints.{within, allWithin, rootWithin, q, coordinate, pointAt};
-ghost use Rattle.corners.specs.Laws.{InsideRoot};
+ghost use Rattle.prism.specs.Points.{InRoot};
 ghost use Rattle.corners.specs.Inner.{along, Near, Heights, mix, blend, xs, ys, zs, CornerRow, localOf, cornerOf};
 
 // One coordinate of a root's six corners.
@@ -165,7 +165,7 @@ fn blended(t0: i64, t1: i64, t2: i64, x: u32, y: u32) -> i64
 }
 
 fn scaled(a: Axis, p: Local) -> i64
-    requires { ⌜ Near a × InsideRoot (cornerOf p) ⌝ }
+    requires { ⌜ Near a × InRoot HIGHEST (cornerOf p) ⌝ }
     ensures { λ r. ⌜ r ≡ q (along a) (p .x) (p .y) (p .z) ⌝ }
 {
     let t0 = raised(a.v0, a.v3, p.z);
@@ -183,14 +183,14 @@ fn shrunk(q: i64) -> f64
 }
 
 fn measured(a: Axis, p: Local) -> f64
-    requires { ⌜ Near a × InsideRoot (cornerOf p) ⌝ }
+    requires { ⌜ Near a × InRoot HIGHEST (cornerOf p) ⌝ }
     ensures { λ r. ⌜ r ≡ coordinate (q (along a) (p .x) (p .y) (p .z)) ⌝ }
 {
     shrunk(scaled(a, p))
 }
 
 pub(crate) fn placed(root: Root, p: Local) -> Point
-    requires { ⌜ (rootWithin root ≡ true) × InsideRoot (cornerOf p) ⌝ }
+    requires { ⌜ (rootWithin root ≡ true) × InRoot HIGHEST (cornerOf p) ⌝ }
     ensures { λ r. ⌜ r ≡ pointAt root (cornerOf p) ⌝ }
 {
     Point {

@@ -6,6 +6,7 @@ use Prim.Native.Nat.{ℕ, _+_, _*_, _/_, _%_, _^_, _≤_, _<_}
 use native.Mathlib.Nat.{mul-le-mul-right}
 use native.Mathlib.Omega.{arith}
 use Rattle.tree.specs.Anchors.{side}
+use Rattle.tree.specs.Laws.{Sound}
 use Rattle.tree.proofs.Anchor.{grid-lt, end-inside}
 use Rattle.tree.proofs.Cases.{below-3}
 use Rattle.line.proofs.Laws.{grid-sound}
@@ -56,5 +57,6 @@ module _ (L : ℕ) where
   refusal-4 = record { on-grid = on-grid; inside = inside }
 
   -- so the corners of every sound element lie in the root
-  pub corner-in-root : (e : Prism) (i : ℕ) → fault L e ≡ 0 → i < 6 → InRoot L (corner L e i)
+  pub corner-in-root : (e : Prism) (i : ℕ) → Sound (prismTo L) e → i < 6 → InRoot L (corner L e i)
+  unfolding prismTo
   corner-in-root e i sound small = inside e (on-grid e sound) .0 sound i small

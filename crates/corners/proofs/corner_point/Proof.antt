@@ -11,13 +11,13 @@ use Rattle.tree.specs.Words.{elementAt}
 use Rattle.tree.proofs.Digits.{shifted-power}
 use Rattle.prism.specs.declared.Prism.{Prism}
 use Rattle.prism.specs.Elements.{prism}
+use Rattle.prism.specs.Points.{InRoot}
 use Rattle.prism.specs.Points as prisms
+use Rattle.prism.proofs.Inside.{corner-in-root}
 use Rattle.corners.specs.declared.Root.{Root}
 use Rattle.corners.specs.declared.work.Local.{Local}
 use Rattle.corners.specs.CornerPoints.{rootWithin, pointAt}
-use Rattle.corners.specs.Laws.{InsideRoot}
 use Rattle.corners.specs.Inner.{cornerOf}
-use Rattle.corners.proofs.LocalCorners.{corner-inside}
 use Rattle.corners.proofs.Call.{point-refused-1, point-refused-5, point-refused-8, point-refused-24, point-accepted, element-is, element-never, element-sound}
 use Rattle.corners.proofs.corner_point.Statement.{statement}
 use Rattle.corners.proofs.corner_point.Tie as tie
@@ -121,7 +121,7 @@ local-of-requires c κs = let k = known c in (k .sound, k .small)
 placed-requires : tie.Need-placed-requires
 placed-requires c κs =
     let k = known (c .before) in
-    (k .near, subst⁻¹ (λ (x : Local). InsideRoot (cornerOf x)) (c .local-of .ensures) (corner-inside _ _ (k .sound) (k .small)))
+    (k .near, subst⁻¹ (λ (x : Local). InRoot 21 (cornerOf x)) (c .local-of .ensures) (corner-in-root 21 _ _ (k .sound) (k .small)))
 
 returns-6 : tie.Need-returns-6
 returns-6 c =

@@ -59,7 +59,7 @@ blended-requires c κs =
         tall1 = tall _ (a .v1) (a .v4) (p .z) (n .near1) (n .near4) (s .upwards) (at-raised2 .raised2 .ensures);
         tall2 = tall _ (a .v2) (a .v5) (p .z) (n .near2) (n .near5) (s .upwards) (c .raised3 .ensures);
       },
-      (s .ordered, s .across),
+      (s .in-plan .ordered, s .in-plan .across),
     )
 
 returns : tie.Need-returns
