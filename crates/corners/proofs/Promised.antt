@@ -42,7 +42,9 @@ exact =
 small : (r : Root) (c : prisms.Corner) → rootWithin r ≡ true → prisms.InRoot 21 c → Small r c
 small r c near inside =
     let p = localOf c in
-    let at-c : prisms.InRoot 21 (cornerOf p) = record { in-plan = record { ordered = inside .in-plan .ordered; across = inside .in-plan .across }; upwards = inside .upwards } in
+    let plan = inside .in-plan in
+    let at-c : prisms.InRoot 21 (cornerOf p) =
+    record { in-plan = record { ordered = plan .ordered; across = plan .across }; upwards = inside .upwards } in
     record {
       in-x = axis-bound (xs r) p (near-xs r near) at-c;
       in-y = axis-bound (ys r) p (near-ys r near) at-c;

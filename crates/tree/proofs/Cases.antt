@@ -20,3 +20,7 @@ below-4 P p0 p1 p2 p3 (suc i) small = below-3 (λ (k : ℕ). P (suc k)) p1 p2 p3
 pub below-5 : (P : ℕ → Type 0) → P 0 → P 1 → P 2 → P 3 → P 4 → (i : ℕ) → i < 5 → P i
 below-5 P p0 p1 p2 p3 p4 zero small = p0
 below-5 P p0 p1 p2 p3 p4 (suc i) small = below-4 (λ (k : ℕ). P (suc k)) p1 p2 p3 p4 i (omega arith)
+
+pub below-6 : (P : ℕ → Type 0) → P 0 → P 1 → P 2 → P 3 → P 4 → P 5 → (i : ℕ) → i < 6 → P i
+below-6 P p0 p1 p2 p3 p4 p5 zero small = p0
+below-6 P p0 p1 p2 p3 p4 p5 (suc i) small = below-5 (λ (k : ℕ). P (suc k)) p1 p2 p3 p4 p5 i (omega arith)

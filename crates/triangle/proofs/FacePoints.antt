@@ -27,7 +27,9 @@ Agree a b =
 pub agree : (a b : List Point) → a ≡ b → Agree a b
 agree a b same =
     let o = point 0 0 in
-    (ap (λ (l : List Point). getD l 0 o .x) same, (ap (λ (l : List Point). getD l 0 o .y) same, (ap (λ (l : List Point). getD l 1 o .x) same, ap (λ (l : List Point). getD l 1 o .y) same)))
+    let first-x = ap (λ (l : List Point). getD l 0 o .x) same in
+    let first-y = ap (λ (l : List Point). getD l 0 o .y) same in
+    (first-x, (first-y, (ap (λ (l : List Point). getD l 1 o .x) same, ap (λ (l : List Point). getD l 1 o .y) same)))
 
 -- ---- a triangle at (x, y) and one at (x′, y′), of one level
 module _ (L l x y x′ y′ : ℕ) where
