@@ -1,5 +1,5 @@
 -- The order of two is a total order: it compares two pairs of numbers, and the pair of an element determines it. Assumes nothing.
-use mathlib.Core.Path.{_≡_, refl, ap, ap₂, _∙_, sym}
+use mathlib.Core.Path.{_≡_, refl, ap, _∙_, sym}
 use mathlib.Core.Logic.{_↔_, _⊎_, inl, inr, ⊎-elim}
 use Prim.Native.Nat.{ℕ, _-_, _*_, _^_, _<_}
 use native.Mathlib.Nat.{eq-of-mul-eq-mul-right}
@@ -8,10 +8,10 @@ use native.Mathlib.Omega.{arith}
 use borrow.Author.Tests.{lt-ltb, le-ltb}
 use Rattle.paper.specs.Outcome.{Order, less, same, greater}
 use Rattle.tree.specs.Shape.{Shape}
-use Rattle.tree.specs.Words.{compared, position, first, order, elementAt}
+use Rattle.tree.specs.Words.{compared, position, first, order}
 use Rattle.tree.specs.Laws.{Sound, Lawful, TotalOrder}
 use Rattle.tree.proofs.Digits.{power-pos}
-use Rattle.tree.proofs.RoundTrip.{at-position}
+use Rattle.tree.proofs.RoundTrip.{place-injective}
 use Rattle.tree.proofs.Descent.{of-first}
 
 -- ---- comparing numbers
@@ -119,9 +119,8 @@ module _ {E : Type 0} (S : Shape E) (W : Lawful S) where
       let at-f = of-first S W f L sf (W .shallow f sf) (omega arith) in
       let scaled : position S e * k ≡ position S f * k =
       sym at-e ∙ p ∙ at-f ∙ ap (λ (m : ℕ). position S f * S .children ^ (L - m)) (sym l) in
-      let equal : position S e ≡ position S f =
-      eq-of-mul-eq-mul-right k (power-pos (S .children) (L - S .level e) (omega (arith, W .several))) (position S e) (position S f) scaled in
-      sym (at-position S W e se) ∙ ap₂ (elementAt S) l equal ∙ at-position S W f sf
+      place-injective S W e f se sf l
+      (eq-of-mul-eq-mul-right k (power-pos (S .children) (L - S .level e) (omega (arith, W .several))) (position S e) (position S f) scaled)
 
   -- where an element stands: its first descendant, then its level
   abbrev place : E → ℕ
