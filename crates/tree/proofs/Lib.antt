@@ -10,4 +10,5 @@ pub mod Family
 pub mod Walk
 pub mod Sibling
 pub mod Call
+pub mod CallLaws
 pub mod Faces

@@ -4,3 +4,4 @@ pub mod Words
 pub mod Calls
 pub mod Laws
 pub mod Ancestors
+pub mod CallLaws
