@@ -3,7 +3,7 @@
 use mathlib.Core.Path.{_≡_, refl, ap, _∙_, sym, subst⁻¹}
 use mathlib.Core.Logic.{_↔_, ⊎-elim, ∥∥₁-elim, ∥∥₁-map}
 use mathlib.Core.HLevel.{⊥-prop}
-use mathlib.Core.List.{List, [], _∷_, List·Mem, List·Nodup, nodup-nil, nodup-cons}
+use mathlib.Core.List.{List, List·Mem, List·Nodup, nodup-nil, nodup-cons}
 use mathlib.Core.List.{List·Memᴰ, List·Memᴰ·head, List·Memᴰ·tail, List·Memᴰ·not-nil, List·Memᴰ·cases-cons, Memᴰ·cast}
 use mathlib.Core.List.{List·Permᴰ, List·Permᴰ·nil, List·Permᴰ·cons, List·Permᴰ·swap, List·Permᴰ·trans, perm-ext-iff-of-nodup}
 use Prim.Native.Nat.{ℕ, zero, suc, _+_, _<_}

@@ -5,7 +5,9 @@ pub mod Move
 pub mod RoundTrip
 pub mod Descent
 pub mod Ancestors
+pub mod Descendants
 pub mod Ordering
+pub mod CurveOrder
 pub mod Family
 pub mod Walk
 pub mod Sibling
