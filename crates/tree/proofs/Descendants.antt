@@ -94,13 +94,17 @@ module _ {E : Type 0} (S : Shape E) (W : Lawful S) where
         exactly-rows (Descends S e l) entry (span e l) descends-read entry-descends descends-entry
         (λ i j less below. at-apart S W l _ _ room (omega arith) (entry-lt j below))
 
-  pub between : (e f : E) → Sound S e → Sound S f → S .level e ≤ S .level f
-      → LiesIn S f e
-      ↔ ((position S (words.first S e (S .level f)) ≤ position S f) × (position S f ≤ position S (words.last S e (S .level f))))
-  between e f ok fine down =
-      let l = S .level f in
-      let room = W .shallow f fine in
-      rw (of-first S W e l ok down room, of-last S W e l ok down room) (row e l ok down room f (record { sound = fine; level = refl }))
-
   pub descendants : Descendants S
-  descendants = record { of-first = first-descends; of-last = last-descends; between = between; many = many }
+  descendants =
+      record {
+        of-first = first-descends;
+        of-last = last-descends;
+        between = λ e f ok fine down.
+            let l = S .level f in
+            let room = W .shallow f fine in
+            let low = of-first S W e l ok down room in
+            let high = of-last S W e l ok down room in
+            let there = row e l ok down room f (record { sound = fine; level = refl }) in
+            (λ h. (omega (arith, there .0 h .0), omega (arith, there .0 h .1)), λ h. there .1 (omega arith, omega arith));
+        many = many;
+      }
