@@ -9,10 +9,10 @@ use native.Mathlib.Omega.{arith}
 use Rattle.tree.specs.Shape.{Shape}
 use Rattle.tree.specs.Words.{position}
 use Rattle.tree.specs.Laws.{Sound, Lawful}
-use Rattle.tree.proofs.RoundTrip.{position-lt}
+use Rattle.tree.proofs.RoundTrip.{position-lt, place-injective}
 use Rattle.tree.proofs.Descent.{of-child}
 use Rattle.index.specs.Rank.{Ranked}
-use Rattle.index.proofs.Count.{Rises, place-injective, ranked-of-rises}
+use Rattle.index.proofs.Count.{Rises, ranked-of-rises}
 
 -- the step from e to its child i adds mark e i at the place of the child's level
 pub record Marked {E : Type 0} (S : Shape E) (index : E → ℕ) (b : ℕ) (mark : E → ℕ → ℕ) : Type 0 where

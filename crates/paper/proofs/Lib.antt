@@ -3,3 +3,4 @@ pub mod Scan
 pub mod Front
 pub mod Memory
 pub mod Faults
+pub mod Exactly

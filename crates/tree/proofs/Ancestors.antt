@@ -1,6 +1,6 @@
 -- Taking a parent is one level up and divides the position by the number of children, so as often as levels differ it is the one
 -- ancestor of that level, and a position says which. Assumes nothing.
-use mathlib.Core.Path.{_≡_, refl, ap, ap₂, _∙_, sym}
+use mathlib.Core.Path.{_≡_, refl, ap, _∙_, sym}
 use mathlib.Core.Bool.{Bool, true, false, _&&_}
 use Prim.Native.Nat.{ℕ, zero, suc, _+_, _-_, _/_, _^_, _≤_, _<_}
 use native.Mathlib.Nat.{add-zero, add-suc, div-one, div-div-eq-div-mul, pow-zero, pow-suc}
@@ -11,7 +11,7 @@ use Rattle.tree.specs.Shape.{Shape}
 use Rattle.tree.specs.Words as words
 use Rattle.tree.specs.Laws.{Sound, Lawful}
 use Rattle.tree.specs.Ancestors.{up, LiesIn, within, Above, Ancestors}
-use Rattle.tree.proofs.RoundTrip.{round-trips}
+use Rattle.tree.proofs.RoundTrip.{place-injective}
 use Rattle.tree.proofs.Descent.{of-parent}
 
 and-true : (a b : Bool) → (a && b) ≡ true → (a ≡ true) × (b ≡ true)
@@ -86,9 +86,7 @@ module _ {E : Type 0} (S : Shape E) (W : Lawful S) where
         record {
           times = k;
           parents = omega arith;
-          reached = sym (round-trips S W .at-position (up S k e) (a .sound))
-              ∙ ap₂ (words.elementAt S) level (a .position ∙ same)
-              ∙ round-trips S W .at-position f ok;
+          reached = place-injective S W (up S k e) f (a .sound) ok level (a .position ∙ same);
         }
 
   itself : (e : E) → LiesIn S e e

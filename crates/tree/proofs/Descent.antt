@@ -98,12 +98,4 @@ module _ {E : Type 0} (S : Shape E) (W : Lawful S) where
 
   pub positions : Positions S
   positions =
-      record {
-        first-stands = λ e l. descend-stands 0 e l (omega (arith, W .several));
-        last-stands = λ e l. descend-stands (S .children - 1) e l (omega (arith, W .several));
-        of-parent = of-parent;
-        of-child = of-child;
-        of-successor = of-successor;
-        of-first = of-first;
-        of-last = of-last;
-      }
+      record { of-parent = of-parent; of-child = of-child; of-successor = of-successor; of-first = of-first; of-last = of-last }

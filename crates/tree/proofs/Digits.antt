@@ -1,8 +1,10 @@
 -- One digit more in base n and one digit less: the arithmetic under every position. `n * q + i` with i below n has the quotient
 -- q and the rest i. Assumes nothing.
 use mathlib.Core.Path.{_≡_, ap, _∙_, sym}
-use Prim.Native.Nat.{ℕ, zero, suc, _+_, _*_, _/_, _%_, _^_, _≤_, _<_}
-use native.Mathlib.Nat.{mul-zero, mul-suc, one-mul, mul-add-div, mul-add-mod-self-left, mod-eq-of-lt, div-eq-of-lt, add-zero, pow-suc, pow-zero, mul-comm, div-lt-iff-lt-mul, mul-le-mul-left, one-le-pow}
+use mathlib.Core.Logic.{_↔_}
+use Prim.Native.Nat.{ℕ, zero, suc, _+_, _-_, _*_, _/_, _%_, _^_, _≤_, _<_}
+use native.Mathlib.Nat.{mul-zero, mul-suc, one-mul, mul-comm, mul-le-mul-left, mul-le-mul-right, add-zero, pow-suc, pow-zero, one-le-pow}
+use native.Mathlib.Nat.{mul-add-div, mul-add-mod-self-left, mod-eq-of-lt, div-eq-of-lt, div-lt-iff-lt-mul, div-mul-le-self, lt-div-mul-add, div-eq-of-lt-le}
 use native.Mathlib.Omega.{arith}
 use lib.Pow.{pow-lt, pow-add}
 
@@ -39,6 +41,25 @@ module _ (n : ℕ) where
   pub power-pos : (l : ℕ) → 0 < n → 0 < n ^ l
   power-pos l positive = one-le-pow l n positive
 
+  -- k digits more stay below k powers more
+  pub digits-lt : (q i l k : ℕ) → q < n ^ l → i < n ^ k → q * n ^ k + i < n ^ (l + k)
+  digits-lt q i l k below small =
+      rw (pow-add n l k)
+      (let whole : suc q * n ^ k ≤ n ^ l * n ^ k = mul-le-mul-right (n ^ k) below in omega arith)
+
   -- one digit less
   pub div-lt : (p l : ℕ) → 0 < n → p < n ^ suc l → p / n < n ^ l
   div-lt p l positive below = div-lt-iff-lt-mul positive .1 (rw pow-suc at below)
+
+-- the numbers with the quotient p by m are m in a row
+pub quotient-between : (p q m : ℕ) → 0 < m → q / m ≡ p ↔ ((p * m ≤ q) × (q ≤ (p + 1) * m - 1))
+quotient-between p q m positive = (there, back)
+  where
+    there : q / m ≡ p → (p * m ≤ q) × (q ≤ (p + 1) * m - 1)
+    there e =
+        let low : p * m ≤ q = rw e at (div-mul-le-self q m) in
+        let high : q < p * m + m = rw e at (lt-div-mul-add {a = q} positive) in
+        (low, omega arith)
+
+    back : (p * m ≤ q) × (q ≤ (p + 1) * m - 1) → q / m ≡ p
+    back h = div-eq-of-lt-le m (h .0) (let some : 0 < (p + 1) * m = omega arith in omega arith)

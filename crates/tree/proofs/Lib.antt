@@ -5,10 +5,13 @@ pub mod Move
 pub mod RoundTrip
 pub mod Descent
 pub mod Ancestors
+pub mod Descendants
 pub mod Ordering
+pub mod CurveOrder
 pub mod Family
 pub mod Walk
 pub mod Sibling
 pub mod Call
+pub mod CallLaws
 pub mod Faces
 pub mod Apart

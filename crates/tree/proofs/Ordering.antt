@@ -1,17 +1,17 @@
 -- The order of two is a total order: it compares two pairs of numbers, and the pair of an element determines it. Assumes nothing.
-use mathlib.Core.Path.{_≡_, refl, ap, ap₂, _∙_, sym}
+use mathlib.Core.Path.{_≡_, refl, ap, _∙_, sym}
 use mathlib.Core.Logic.{_↔_, _⊎_, inl, inr, ⊎-elim}
-use Prim.Native.Nat.{ℕ, _-_, _*_, _^_, _<_}
+use Prim.Native.Nat.{ℕ, _-_, _*_, _^_, _≤_, _<_}
 use native.Mathlib.Nat.{eq-of-mul-eq-mul-right}
 use native.Mathlib.Decide.{decLt}
 use native.Mathlib.Omega.{arith}
 use borrow.Author.Tests.{lt-ltb, le-ltb}
 use Rattle.paper.specs.Outcome.{Order, less, same, greater}
 use Rattle.tree.specs.Shape.{Shape}
-use Rattle.tree.specs.Words.{compared, position, first, order, elementAt}
+use Rattle.tree.specs.Words.{compared, position, first, order}
 use Rattle.tree.specs.Laws.{Sound, Lawful, TotalOrder}
 use Rattle.tree.proofs.Digits.{power-pos}
-use Rattle.tree.proofs.RoundTrip.{at-position}
+use Rattle.tree.proofs.RoundTrip.{place-injective}
 use Rattle.tree.proofs.Descent.{of-first}
 
 -- ---- comparing numbers
@@ -33,7 +33,7 @@ three a b = decide (decLt a b) (decLt b a)
     decide (no above) (no below) = inr (inl (omega arith))
 
 -- by p against q, then by l against m
-abbrev lex : ℕ → ℕ → ℕ → ℕ → Order
+abbrev pub lex : ℕ → ℕ → ℕ → ℕ → Order
 lex p l q m = compared p q (compared l m same)
 
 -- the three ways in which two pairs of numbers can stand
@@ -69,13 +69,22 @@ less-same o a b = absurd (let z : _≡_ {A = ℕ} 0 1 = cc in omega arith)
 greater-same : {A : Type 0} (o : Order) → o ≡ greater → o ≡ same → A
 greater-same o a b = absurd (let z : _≡_ {A = ℕ} 0 1 = cc in omega arith)
 
-lex-less : (p l q m : ℕ) → lex p l q m ≡ less → (p < q) ⊎ ((p ≡ q) × (l < m))
+pub lex-less : (p l q m : ℕ) → lex p l q m ≡ less → (p < q) ⊎ ((p ≡ q) × (l < m))
 lex-less p l q m h = from (stand p l q m)
   where
     from : Stand p l q m → (p < q) ⊎ ((p ≡ q) × (l < m))
     from (before a b c) = c
     from (level a b c) = less-same _ h a
     from (after a b) = never _ h a
+
+-- not after it by the first pair, and before it by the second
+pub lex-within : (p l q m : ℕ) → p ≤ q → l < m → lex p l q m ≡ less
+lex-within p l q m at deeper = from (three p q)
+  where
+    from : (p < q) ⊎ ((p ≡ q) ⊎ (q < p)) → lex p l q m ≡ less
+    from (inl below) = compared-less p q _ below
+    from (inr (inl equal)) = compared-same p q _ equal ∙ compared-less l m _ deeper
+    from (inr (inr above)) = absurd (omega arith)
 
 lex-same : (p l q m : ℕ) → lex p l q m ≡ same → (p ≡ q) × (l ≡ m)
 lex-same p l q m h = from (stand p l q m)
@@ -108,31 +117,31 @@ lex-carried p l q m r k h g = join (lex-less p l q m h) (lex-less q m r k g)
     join (inr a) (inr b) = compared-same p r _ (omega arith) ∙ compared-less l k _ (omega arith)
 
 -- ---- of elements
-module _ {E : Type 0} (S : Shape E) (W : Lawful S) where
-  -- equal positions of the first descendants and equal levels: one element
-  same-place : (e f : E) → Sound S e → Sound S f → position S (first S e (S .highest)) ≡ position S (first S f (S .highest))
-      → S .level e ≡ S .level f → e ≡ f
-  same-place e f se sf p l =
-      let L = S .highest in
-      let k = S .children ^ (L - S .level e) in
-      let at-e = of-first S W e L se (W .shallow e se) (omega arith) in
-      let at-f = of-first S W f L sf (W .shallow f sf) (omega arith) in
-      let scaled : position S e * k ≡ position S f * k =
-      sym at-e ∙ p ∙ at-f ∙ ap (λ (m : ℕ). position S f * S .children ^ (L - m)) (sym l) in
-      let equal : position S e ≡ position S f =
-      eq-of-mul-eq-mul-right k (power-pos (S .children) (L - S .level e) (omega (arith, W .several))) (position S e) (position S f) scaled in
-      sym (at-position S W e se) ∙ ap₂ (elementAt S) l equal ∙ at-position S W f sf
+-- where an element stands: its first descendant, then its level
+abbrev pub place : {E : Type 0} → Shape E → E → ℕ
+place S e = position S (first S e (S .highest))
 
-  -- where an element stands: its first descendant, then its level
-  abbrev place : E → ℕ
-  place e = position S (first S e (S .highest))
+module _ {E : Type 0} (S : Shape E) (W : Lawful S) where
+  -- by its position, of an element of level l
+  pub place-of : (e : E) (l : ℕ) → Sound S e → S .level e ≡ l → place S e ≡ position S e * S .children ^ (S .highest - l)
+  place-of e l sound at =
+      of-first S W e (S .highest) sound (W .shallow e sound) (omega arith)
+      ∙ ap (λ (m : ℕ). position S e * S .children ^ (S .highest - m)) at
+
+  -- equal positions of the first descendants and equal levels: one element
+  same-place : (e f : E) → Sound S e → Sound S f → place S e ≡ place S f → S .level e ≡ S .level f → e ≡ f
+  same-place e f se sf p l =
+      let k = S .highest - S .level f in
+      place-injective S W e f se sf l
+      (eq-of-mul-eq-mul-right (S .children ^ k) (power-pos (S .children) k (omega (arith, W .several))) (position S e) (position S f)
+      (sym (place-of e (S .level f) se l) ∙ p ∙ place-of f (S .level f) sf refl))
 
   pub total-order : TotalOrder S
   unfolding order
   total-order =
       record {
-        itself = λ e. compared-same (place e) (place e) (compared (S .level e) (S .level e) same) refl ∙ compared-same (S .level e) (S .level e) same refl;
-        identical = λ e f se sf h. let d = lex-same (place e) (S .level e) (place f) (S .level f) h in same-place e f se sf (d .0) (d .1);
-        turned = λ e f. lex-turned (place e) (S .level e) (place f) (S .level f);
-        carried = λ e f g. lex-carried (place e) (S .level e) (place f) (S .level f) (place g) (S .level g);
+        itself = λ e. compared-same (place S e) (place S e) (compared (S .level e) (S .level e) same) refl ∙ compared-same (S .level e) (S .level e) same refl;
+        identical = λ e f se sf h. let d = lex-same (place S e) (S .level e) (place S f) (S .level f) h in same-place e f se sf (d .0) (d .1);
+        turned = λ e f. lex-turned (place S e) (S .level e) (place S f) (S .level f);
+        carried = λ e f g. lex-carried (place S e) (S .level e) (place S f) (S .level f) (place S g) (S .level g);
       }

@@ -75,6 +75,16 @@ module _ {E : Type 0} (S : Shape E) (W : Lawful S) where
   pub at-position : (e : E) → Sound S e → elementAt S (S .level e) (position S e) ≡ e
   at-position e sound = at-positionAt (S .level e) e refl sound
 
+  -- two positions of one level have two elements
+  pub at-apart : (l p q : ℕ) → l ≤ S .highest → p < q → q < S .children ^ l → elementAt S l p ≡ elementAt S l q → ⊥
+  at-apart l p q shallow less below same =
+      let place : position S (elementAt S l p) ≡ position S (elementAt S l q) = ap (position S) same in
+      omega (arith, position-at l p shallow (omega arith), position-at l q shallow below)
+
+  -- the place decides the element
+  pub place-injective : (e f : E) → Sound S e → Sound S f → S .level e ≡ S .level f → position S e ≡ position S f → e ≡ f
+  place-injective e f ok fine level place = sym (at-position e ok) ∙ ap₂ (elementAt S) level place ∙ at-position f fine
+
   pub round-trips : RoundTrips S
   round-trips =
       record { at-sound = at-sound; at-level = at-level; position-at = position-at; position-lt = position-lt; at-position = at-position }

@@ -4,8 +4,8 @@
 --   Sound e        e is a valid element: it passes the checks on an element
 --   Lawful         what a shape shows of its own tables: one step down and one step up undo each other, among sound elements
 --   RoundTrips     "each position below eight to the power of the level gives back its element", and the other way round
---   Positions      the positions of parent, child, successor, first and last descendant; that the descendants are valid and of the asked
---                  level (of parent and child `Lawful` says it)
+--   Positions      the positions of parent, child, successor, first and last descendant (that they are valid and of which level, `Lawful`
+--                  and `Descendants` say)
 --   TotalOrder     the order of two is a total order
 --   Across e f i j   face i of e is face j of the other element f
 --   Faces          a face neighbour lies across: it is another valid element of the level and shares that whole face; whoever has the face
@@ -63,8 +63,6 @@ module _ {E : Type 0} (S : Shape E) where
     pub level : S .level f ≡ l
 
   pub record Positions : Type 0 where
-    pub first-stands : (e : E) (l : ℕ) → Sound e → S .level e ≤ l → l ≤ S .highest → OfLevel (first S e l) l
-    pub last-stands : (e : E) (l : ℕ) → Sound e → S .level e ≤ l → l ≤ S .highest → OfLevel (last S e l) l
     pub of-parent : (e : E) → Sound e → 0 < S .level e → position S (S .parent e) ≡ position S e / S .children
     pub of-child : (e : E) (i : ℕ) → Sound e → S .level e < S .highest → i < S .children
         → position S (S .child e i) ≡ S .children * position S e + i

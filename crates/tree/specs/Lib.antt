@@ -4,3 +4,5 @@ pub mod Words
 pub mod Calls
 pub mod Laws
 pub mod Ancestors
+pub mod Descendants
+pub mod CallLaws
