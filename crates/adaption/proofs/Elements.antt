@@ -1,15 +1,13 @@
 -- A leaf's child, parent and family are the element's: the element at a position is the child, by the last digit, of the element at the
 -- position without it. Assumes nothing.
 use mathlib.Core.Path.{_≡_, refl, ap, ap₂, _∙_, sym, subst}
-use mathlib.Core.Bool.{true, and-eq-true-iff, _&&_}
+use mathlib.Core.Bool.{true}
 use mathlib.Core.List.{List, _∷_}
 use Prim.Native.Nat.{ℕ, zero, suc, _+_, _-_, _*_, _/_, _%_, _^_, _<_}
 use native.Mathlib.Nat.{mul-comm, mul-add-mod-self-left, mod-eq-of-lt, mod-lt, div-lt-iff-lt-mul, pow-suc}
 use native.Mathlib.Numerals.{add-one}
 use native.Mathlib.Omega.{arith}
-use lib.Dec.{leb, ltb}
 use lib.ListN.{length}
-use borrow.Author.Tests.{ltb-true, leb-true}
 use Rattle.paper.specs.Outcome.{rows}
 use Rattle.tree.specs.Shape.{Shape}
 use Rattle.tree.specs.Laws.{Sound, Lawful}
@@ -18,10 +16,11 @@ use Rattle.tree.proofs.Family.{families}
 use Rattle.tree.specs.Words as words
 use Rattle.leaves.specs.Leaves.{Leaf, nth}
 use Rattle.leaves.proofs.Span.{quotient}
-use Rattle.adaption.specs.Adaption.{every, same, child, parent, family}
+use Rattle.adaption.specs.Adaption.{child, parent, family}
 use Rattle.leaves.specs.Cells.{elementOf, Proper}
-use Rattle.adaption.specs.Laws.{Relatives}
-use Rattle.adaption.proofs.Family.{every-all, same-is}
+use Rattle.adaption.specs.Laws.{Siblings, Relatives}
+use Rattle.adaption.proofs.Family.{family-is}
+use Rattle.adaption.proofs.OneParent.{of-siblings}
 
 module _ {E : Type 0} (S : Shape E) (W : Lawful S) where
   -- one level down
@@ -46,7 +45,9 @@ module _ {E : Type 0} (S : Shape E) (W : Lawful S) where
     one-more = omega arith
 
     up-below : v .position / S .children < S .children ^ (v .level - 1)
-    up-below = div-lt-iff-lt-mul positive .1 (subst (λ (k : ℕ). v .position < k) (ap (λ (l : ℕ). S .children ^ l) one-more ∙ pow-suc (S .children) (v .level - 1)) (stands .position))
+    up-below =
+        let whole = ap (λ (l : ℕ). S .children ^ l) one-more ∙ pow-suc (S .children) (v .level - 1) in
+        div-lt-iff-lt-mul positive .1 (subst (λ (k : ℕ). v .position < k) whole (stands .position))
 
     pub up-sound : Sound S (elementOf S (parent (S .children) v))
     up-sound = round-trips S W .at-sound (v .level - 1) (v .position / S .children) (omega (arith, stands .level)) up-below
@@ -63,18 +64,25 @@ module _ {E : Type 0} (S : Shape E) (W : Lawful S) where
   same-rows f g m i zero e alike = refl
   same-rows f g m i (suc k) e alike = ap₂ (λ (x : E) (xs : List E). x ∷ xs) (alike i (omega arith)) (same-rows f g m (suc i) k (omega arith) alike)
 
-  of-family : (vs : List Leaf) (j : ℕ) → ((i : ℕ) → i < length vs → Proper S (nth vs i)) → family (S .children) vs j ≡ true
-      → words.family S (rows (λ t. elementOf S (nth vs (j + t))) 0 (S .children)) ≡ true
+  of-family : (vs : List Leaf) (j : ℕ) → ((i : ℕ) → i < length vs → Proper S (nth vs i)) → family (S .children) vs j ≡ true → Siblings S vs j
   of-family vs j stands h =
       let n = S .children in
-      let a = and-eq-true-iff (ltb 0 (nth vs j .level)) (leb (j + n) (length vs) && every n (λ t. same (nth vs (j + t)) (child n (parent n (nth vs j)) t))) .0 h in
-      let b = and-eq-true-iff (leb (j + n) (length vs)) (every n (λ t. same (nth vs (j + t)) (child n (parent n (nth vs j)) t))) .0 (a .1) in
-      let deep = ltb-true 0 (nth vs j .level) (a .0) in
-      let here : j < length vs = omega (arith, leb-true (j + S .children) (length vs) (b .0), W .several) in
-      ap (words.family S) (same-rows (λ t. elementOf S (nth vs (j + t))) (S .child (elementOf S (parent n (nth vs j)))) n 0 n (omega arith)
-      (λ t below. ap (elementOf S) (same-is (nth vs (j + t)) (child n (parent n (nth vs j)) t) (every-all n (λ t. same (nth vs (j + t)) (child n (parent n (nth vs j)) t)) (b .1) t below))
-      ∙ of-child (parent n (nth vs j)) t below))
-      ∙ families S W .of-children (elementOf S (parent n (nth vs j))) (up-sound (nth vs j) (stands j here) deep) (up-above (nth vs j) (stands j here) deep)
+      let f = family-is n vs j h in
+      let here : j < length vs = omega (arith, f .inside, W .several) in
+      let up = elementOf S (parent n (nth vs j)) in
+      record {
+        inside = f .inside;
+        one-root = λ t below. ap (λ (v : Leaf). v .root) (f .sibling t below);
+        siblings = ap (words.family S)
+            (same-rows (λ t. elementOf S (nth vs (j + t))) (S .child up) n 0 n (omega arith)
+            (λ t below. ap (elementOf S) (f .sibling t below) ∙ of-child (parent n (nth vs j)) t below))
+            ∙ families S W .of-children up (up-sound (nth vs j) (stands j here) (f .deep)) (up-above (nth vs j) (stands j here) (f .deep));
+      }
 
   pub relatives : Relatives S
-  relatives = record { children = of-child; parents = of-parent; families = of-family }
+  relatives =
+      record {
+        children = of-child;
+        parents = of-parent;
+        families = λ vs j stands. (of-family vs j stands, of-siblings S W vs j stands);
+      }

@@ -3,7 +3,7 @@
 use mathlib.Core.Path.{_≡_, refl, ap, ap₂, _∙_, sym}
 use mathlib.Core.Bool.{Bool, true, false, _&&_, and-eq-true-iff}
 use mathlib.Core.List.{List}
-use Prim.Native.Nat.{ℕ, zero, suc, _+_, _-_, _/_, _%_, _<_}
+use Prim.Native.Nat.{ℕ, zero, suc, _+_, _-_, _/_, _%_, _≤_, _<_}
 use native.Mathlib.Nat.{mul-add-mod-self-left, mod-eq-of-lt, add-zero}
 use native.Mathlib.Decide.{ℕ-discrete}
 use native.Mathlib.Omega.{arith}
@@ -51,25 +51,50 @@ is-same u v e =
       eq-eqb (u .position) (v .position) (ap (λ (w : Leaf). w .position) e),
     )
 
+-- the n leaves from number j on are a family, as a statement
+pub record Family (n : ℕ) (vs : List Leaf) (j : ℕ) : Type 0 where
+  pub deep : 0 < nth vs j .level
+  pub inside : j + n ≤ length vs
+  pub sibling : (t : ℕ) → t < n → nth vs (j + t) ≡ child n (parent n (nth vs j)) t
+
+module _ (n : ℕ) (vs : List Leaf) (j : ℕ) where
+  abbrev here : ℕ → Bool
+  here t = same (nth vs (j + t)) (child n (parent n (nth vs j)) t)
+
+  pub family-is : family n vs j ≡ true → Family n vs j
+  family-is h =
+      let a = and-eq-true-iff (ltb 0 (nth vs j .level)) (leb (j + n) (length vs) && every n here) .0 h in
+      let b = and-eq-true-iff (leb (j + n) (length vs)) (every n here) .0 (a .1) in
+      record {
+        deep = ltb-true 0 (nth vs j .level) (a .0);
+        inside = leb-true (j + n) (length vs) (b .0);
+        sibling = λ t below. same-is (nth vs (j + t)) (child n (parent n (nth vs j)) t) (every-all n here (b .1) t below);
+      }
+
+  pub is-family : Family n vs j → family n vs j ≡ true
+  is-family f =
+      simp (
+        lt-ltb 0 (nth vs j .level) (f .deep),
+        le-leb (j + n) (length vs) (f .inside),
+        all-every n here (λ t below. is-same (nth vs (j + t)) (child n (parent n (nth vs j)) t) (f .sibling t below)),
+      )
+
 module _ (n : ℕ) (vs : List Leaf) (ms : List ℕ) where
   pub merging-is : (j : ℕ) → merging n vs ms j ≡ true → Merging n vs ms j
   merging-is j h =
       let a = and-eq-true-iff (family n vs j) (every n (λ t. eqb (mark ms (j + t)) 2)) .0 h in
-      let b = and-eq-true-iff (ltb 0 (nth vs j .level)) (leb (j + n) (length vs) && every n (λ t. same (nth vs (j + t)) (child n (parent n (nth vs j)) t))) .0 (a .0) in
-      let d = and-eq-true-iff (leb (j + n) (length vs)) (every n (λ t. same (nth vs (j + t)) (child n (parent n (nth vs j)) t))) .0 (b .1) in
+      let f = family-is n vs j (a .0) in
       record {
-        deep = ltb-true 0 (nth vs j .level) (b .0);
-        inside = leb-true (j + n) (length vs) (d .0);
-        sibling = λ t below. same-is (nth vs (j + t)) (child n (parent n (nth vs j)) t) (every-all n (λ t. same (nth vs (j + t)) (child n (parent n (nth vs j)) t)) (d .1) t below);
+        deep = f .deep;
+        inside = f .inside;
+        sibling = f .sibling;
         carries = λ t below. eqb-true (mark ms (j + t)) 2 (every-all n (λ t. eqb (mark ms (j + t)) 2) (a .1) t below);
       }
 
   pub is-merging : (j : ℕ) → Merging n vs ms j → merging n vs ms j ≡ true
   is-merging j m =
-      simp (
-        lt-ltb 0 (nth vs j .level) (m .deep),
-        le-leb (j + n) (length vs) (m .inside),
-        all-every n (λ t. same (nth vs (j + t)) (child n (parent n (nth vs j)) t)) (λ t below. is-same (nth vs (j + t)) (child n (parent n (nth vs j)) t) (m .sibling t below)),
+      and-eq-true-iff (family n vs j) (every n (λ t. eqb (mark ms (j + t)) 2)) .1 (
+        is-family n vs j (record { deep = m .deep; inside = m .inside; sibling = m .sibling }),
         all-every n (λ t. eqb (mark ms (j + t)) 2) (λ t below. eq-eqb (mark ms (j + t)) 2 (m .carries t below)),
       )
 

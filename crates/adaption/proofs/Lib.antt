@@ -12,4 +12,5 @@ pub mod Covering
 pub mod Validity
 pub mod Keeping
 pub mod Promised
+pub mod OneParent
 pub mod Elements

@@ -4,11 +4,11 @@
 --   OnePass vs ms     which leaves are refined, which merge, which are kept, and what each gives; `adapted` is what they give, in order
 --   Refinable vs ms   no leaf of the highest level is marked 1
 --   Marked            the marks of N leaves are m for the k leaves from number i on, and 0 for the others
---   Begun, Step       an accepted uniform start, an accepted adaption of the list vs: the leaves that it gives
---   Reached K s ws    the list ws is reached from a uniform start by s accepted adaptions, one after the other
---   Promised          all of it
---   Relatives S       a leaf's children and its parent are the element's, and leaves that are a family here are one there: "yes exactly when
---                     the given elements are all children of one parent, in order"
+--   Step, Steps K s vs ws   an accepted adaption of the list vs: the leaves that it gives; s of them, one after the other, from vs to ws
+--   Promised          all of it; what an accepted adaption gives is a list again
+--   Siblings S vs j   the leaves from number j on, as many as an element has children, are of one root, and their elements are a family: "yes
+--                     exactly when the given elements are all children of one parent, in order"
+--   Relatives S       a leaf's children and its parent are the element's, and leaves are a family here exactly when they are siblings there
 --
 -- Assumes nothing.
 use mathlib.Core.Path.{_≡_}
@@ -21,7 +21,7 @@ use Rattle.paper.specs.Outcome.{accepted, rows}
 use Rattle.tree.specs.Shape.{Shape}
 use Rattle.tree.specs.Words as words
 use Rattle.leaves.specs.Leaves.{Leaf, nth, Columns, columnsOf, Valid}
-use Rattle.leaves.specs.Calls.{uniform}
+use Rattle.leaves.specs.Laws.{ValidList}
 use Rattle.leaves.specs.Cells.{elementOf, Proper}
 use Rattle.marks.specs.Marks.{mark}
 use Rattle.adaption.specs.Adaption.{child, parent, childrenOf, family, merging, gives, adapted}
@@ -50,31 +50,32 @@ module _ (n : ℕ) where
     abbrev pub Refinable : List Leaf → List ℕ → Type 0
     Refinable vs ms = (i : ℕ) → i < length vs → mark ms i ≡ 1 → nth vs i .level < L
 
-    pub record Begun (K : ℕ) (ws : List Leaf) : Type 0 where
-      pub level : ℕ
-      pub lent : Columns
-      pub accepts : uniform n L K level lent ≡ accepted ws
-
     pub record Step (K : ℕ) (vs ws : List Leaf) : Type 0 where
       pub marks : List ℕ
       pub lent : Columns
       pub accepts : adapt n L K (columnsOf vs) marks lent ≡ accepted ws
 
-    unfoldable pub Reached : ℕ → ℕ → List Leaf → Type 0
-    Reached K zero ws = Begun K ws
-    Reached K (suc s) ws = (vs : List Leaf) × (Reached K s vs × Step K vs ws)
+    unfoldable pub Steps : ℕ → ℕ → List Leaf → List Leaf → Type 0
+    Steps K zero vs ws = vs ≡ ws
+    Steps K (suc s) vs ws = (us : List Leaf) × (Steps K s vs us × Step K us ws)
 
     pub record Promised : Type 0 where
       pub one-pass : (vs : List Leaf) (ms : List ℕ) → OnePass vs ms
       pub valid : (K : ℕ) (vs : List Leaf) (ms : List ℕ) → Valid n L K vs → Refinable vs ms → Valid n L K (adapted n vs ms)
-      pub reached : (K s : ℕ) (ws : List Leaf) → Reached K s ws → Valid n L K ws
+      pub adapted-list : (K : ℕ) (cs : Columns) (ms : List ℕ) (m : Columns) (ws : List Leaf) → adapt n L K cs ms m ≡ accepted ws
+          → ValidList n L K (columnsOf ws)
+      pub reached : (K s : ℕ) (vs ws : List Leaf) → Valid n L K vs → Steps K s vs ws → Valid n L K ws
       pub unmarked : (vs : List Leaf) (ms : List ℕ) → ((i : ℕ) → i < length vs → mark ms i ≡ 0) → adapted n vs ms ≡ vs
       pub undone : (vs : List Leaf) (ms ms′ : List ℕ) (i : ℕ) → i < length vs → Marked ms 1 i 1 (length vs)
           → Marked ms′ 2 i n (length (adapted n vs ms)) → adapted n (adapted n vs ms) ms′ ≡ vs
 
 module _ {E : Type 0} (S : Shape E) where
+  pub record Siblings (vs : List Leaf) (j : ℕ) : Type 0 where
+    pub inside : j + S .children ≤ length vs
+    pub one-root : (t : ℕ) → t < S .children → nth vs (j + t) .root ≡ nth vs j .root
+    pub siblings : words.family S (rows (λ t. elementOf S (nth vs (j + t))) 0 (S .children)) ≡ true
+
   pub record Relatives : Type 0 where
     pub children : (v : Leaf) (t : ℕ) → t < S .children → elementOf S (child (S .children) v t) ≡ S .child (elementOf S v) t
     pub parents : (v : Leaf) → Proper S v → 0 < v .level → elementOf S (parent (S .children) v) ≡ S .parent (elementOf S v)
-    pub families : (vs : List Leaf) (j : ℕ) → ((i : ℕ) → i < length vs → Proper S (nth vs i)) → family (S .children) vs j ≡ true
-        → words.family S (rows (λ t. elementOf S (nth vs (j + t))) 0 (S .children)) ≡ true
+    pub families : (vs : List Leaf) (j : ℕ) → ((i : ℕ) → i < length vs → Proper S (nth vs i)) → family (S .children) vs j ≡ true ↔ Siblings vs j

@@ -11,11 +11,11 @@ use Rattle.tree.specs.Ancestors.{up}
 use Rattle.tree.proofs.RoundTrip.{round-trips}
 use Rattle.tree.proofs.Ancestors.{above}
 use Rattle.tree.specs.Words as words
-use Rattle.leaves.specs.Leaves.{Leaf, nth, spotAt, Valid}
-use Rattle.leaves.specs.Laws.{Holds, Once}
+use Rattle.leaves.specs.Leaves.{Leaf, nth, Valid}
+use Rattle.leaves.specs.Laws.{Holds}
 use Rattle.leaves.specs.Cells.{Proper, InLeaf, OneLeaf, CellsOnce, CellLaws}
-use Rattle.leaves.proofs.Cells.{once-each}
-use Rattle.leaves.proofs.Entries.{level-at, position-at}
+use Rattle.leaves.proofs.Cells.{Once, once-each}
+use Rattle.leaves.proofs.Along.{proper-at, along}
 
 module _ {E : Type 0} (S : Shape E) (W : Lawful S) where
   -- ---- an element and a proper leaf
@@ -57,11 +57,7 @@ module _ {E : Type 0} (S : Shape E) (W : Lawful S) where
       few = subst (λ (l : ℕ). words.position S e < S .children ^ l) smallest (round-trips S W .position-lt e sound)
 
       proper : (j : ℕ) → j < length vs → Proper S (nth vs j)
-      proper j inside =
-          record {
-            level = level-at (S .children) (S .highest) K (spotAt 0 0) vs j valid inside;
-            position = position-at (S .children) (S .highest) K (spotAt 0 0) vs j valid inside;
-          }
+      proper = proper-at S W K vs valid
 
       deep : (j : ℕ) → j < length vs → nth vs j .level ≤ S .level e
       deep j inside = omega (arith, smallest, proper j inside .level)
@@ -82,5 +78,6 @@ module _ {E : Type 0} (S : Shape E) (W : Lawful S) where
   cell-laws =
       record {
         once = cells-once;
+        along = along S W;
         by-position = λ v r e proper sound deep. (holds-of v r e proper sound deep, of-holds v r e proper sound deep);
       }

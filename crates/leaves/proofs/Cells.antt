@@ -7,16 +7,24 @@ use native.Mathlib.Nat.{div-mul-le-self, lt-div-mul-add, div-eq-of-lt-le, mul-le
 use native.Mathlib.Decide.{decLt, ℕ-discrete}
 use native.Mathlib.Omega.{arith}
 use lib.ListN.{length}
+use Rattle.paper.specs.Exactly.{ExactlyOne}
 use Rattle.leaves.specs.Leaves.{Leaf, nth, Spot, spotAt, span, begin, past, startOf, endOf, Covers, Valid}
-use Rattle.leaves.specs.Laws.{Holds, Once, OnceEach}
+use Rattle.leaves.specs.Laws.{Holds}
 use Rattle.leaves.proofs.Span.{more-mul, quotient, power-pos, past-begin, past-le, end-last, end-within}
 
 module _ (n L : ℕ) where
+  -- cell q of root r lies in exactly one leaf; each smallest cell of each root does
+  abbrev pub Once : List Leaf → ℕ → ℕ → Type 0
+  Once vs r q = ExactlyOne (length vs) (λ j. Holds n L (nth vs j) r q)
+
+  abbrev pub OnceEach : ℕ → List Leaf → Type 0
+  OnceEach K vs = (r q : ℕ) → r < K → q < n ^ L → Once vs r q
+
   -- ---- the number of a place, counted through all roots
-  abbrev number : Spot → ℕ
+  abbrev pub number : Spot → ℕ
   number c = c .root * n ^ L + c .cell
 
-  number-end : (v : Leaf) → number (endOf n L v) ≡ number (startOf n L v) + span n L (v .level)
+  pub number-end : (v : Leaf) → number (endOf n L v) ≡ number (startOf n L v) + span n L (v .level)
   number-end v = by (ℕ-discrete (past n L v) (n ^ L))
     where
       by : Dec (past n L v ≡ n ^ L) → number (endOf n L v) ≡ number (startOf n L v) + span n L (v .level)
@@ -49,14 +57,14 @@ module _ (n L : ℕ) where
 
   -- ---- a list with one leaf more
   once-head : (v : Leaf) (vs : List Leaf) (r q : ℕ) → Holds n L v r q → ((j : ℕ) → j < length vs → Holds n L (nth vs j) r q → ⊥)
-      → Once n L (v ∷ vs) r q
+      → Once (v ∷ vs) r q
   once-head v vs r q h others = record { which = 0; below = omega arith; holds = h; only = only }
     where
       only : (j : ℕ) → j < suc (length vs) → Holds n L (nth (v ∷ vs) j) r q → j ≡ 0
       only zero inside held = refl
       only (suc j) inside held = absurd (others j (omega arith) held)
 
-  once-tail : (v : Leaf) (vs : List Leaf) (r q : ℕ) → (Holds n L v r q → ⊥) → Once n L vs r q → Once n L (v ∷ vs) r q
+  once-tail : (v : Leaf) (vs : List Leaf) (r q : ℕ) → (Holds n L v r q → ⊥) → Once vs r q → Once (v ∷ vs) r q
   once-tail v vs r q other o = record { which = suc (o .which); below = omega (arith, o .below); holds = o .holds; only = only }
     where
       only : (j : ℕ) → j < suc (length vs) → Holds n L (nth (v ∷ vs) j) r q → j ≡ suc (o .which)
@@ -73,18 +81,18 @@ module _ (n L : ℕ) where
     none-before c (v ∷ vs) f before (suc j) inside held =
         none-before (endOf n L v) vs (f .4) (omega (arith, ap number (f .2), number-end v)) j (omega arith) held
 
-    once-from : (c : Spot) (vs : List Leaf) → Covers n L c vs K → r < K → number c ≤ r * n ^ L + q → Once n L vs r q
+    once-from : (c : Spot) (vs : List Leaf) → Covers n L c vs K → r < K → number c ≤ r * n ^ L + q → Once vs r q
     unfolding Covers
     once-from c [] f root after =
         let next : r + 1 ≤ K = omega arith in
         absurd (omega (arith, ap number f, mul-le-mul-right (n ^ L) next, more-mul r (n ^ L)))
     once-from c (v ∷ vs) f root after = by (decLt (r * n ^ L + q) (number (endOf n L v))) (once-from (endOf n L v) vs (f .4) root)
       where
-        by : Dec (r * n ^ L + q < number (endOf n L v)) → (number (endOf n L v) ≤ r * n ^ L + q → Once n L vs r q) → Once n L (v ∷ vs) r q
+        by : Dec (r * n ^ L + q < number (endOf n L v)) → (number (endOf n L v) ≤ r * n ^ L + q → Once vs r q) → Once (v ∷ vs) r q
         by (yes before) later =
             once-head v vs r q (between-holds v r q (f .0) (f .1) small (omega (arith, ap number (f .2))) before)
             (none-before (endOf n L v) vs (f .4) before)
         by (no beyond) later = once-tail v vs r q (λ h. omega (arith, holds-to positive v r q h)) (later (omega arith))
 
-  pub once-each : 0 < n → (K : ℕ) (vs : List Leaf) → Valid n L K vs → OnceEach n L K vs
+  pub once-each : 0 < n → (K : ℕ) (vs : List Leaf) → Valid n L K vs → OnceEach K vs
   once-each positive K vs f r q root small = once-from positive K r q small (spotAt 0 0) vs f root (omega arith)

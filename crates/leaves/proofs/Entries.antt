@@ -1,5 +1,5 @@
 -- The leaves of a list that covers, one by one: each is sound, and each starts where the one before it ends. Assumes nothing.
-use mathlib.Core.Path.{_≡_, refl, ap, _∙_}
+use mathlib.Core.Path.{_≡_, refl, ap, _∙_, sym}
 use mathlib.Core.List.{List, [], _∷_}
 use Prim.Native.Nat.{ℕ, zero, suc, _^_, _≤_, _<_}
 use native.Mathlib.Omega.{arith}
@@ -30,6 +30,12 @@ module _ (n L K : ℕ) where
   follows c [] j f inside = absurd (omega arith)
   follows c (v ∷ vs) zero f inside = starts-at (endOf n L v) vs (f .4) (omega arith)
   follows c (v ∷ vs) (suc j) f inside = follows (endOf n L v) vs j (f .4) (omega arith)
+
+-- a list ends one number of roots
+pub one-ending : (n L K K′ : ℕ) (c : Spot) (vs : List Leaf) → Covers n L c vs K → Covers n L c vs K′ → K ≡ K′
+unfolding Covers
+one-ending n L K K′ c [] f g = ap (λ (p : Spot). p .root) (sym f ∙ g)
+one-ending n L K K′ c (v ∷ vs) f g = one-ending n L K K′ (endOf n L v) vs (f .4) (g .4)
 
 -- the leaves of one root at least are some
 pub some-leaf : (n L K : ℕ) (vs : List Leaf) → 0 < K → Valid n L K vs → 0 < length vs

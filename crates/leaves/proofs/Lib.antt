@@ -8,6 +8,7 @@ pub mod Promised
 pub mod Shift
 pub mod Turns
 pub mod Entries
+pub mod Along
 pub mod Ancestors
 pub mod Powers
 pub mod Steps

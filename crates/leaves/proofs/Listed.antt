@@ -1,18 +1,32 @@
 -- A list call, test by test: which of its tests refuses, and what is known once they have passed. Assumes nothing.
-use mathlib.Core.Path.{_≡_, ap, _∙_, sym}
+use mathlib.Core.Path.{_≡_, ap, _∙_}
 use mathlib.Core.Bool.{Bool, true, false, not, _&&_, _||_, and-eq-true-iff}
-use Prim.Native.Nat.{ℕ, _<_}
+use Prim.Native.Nat.{ℕ, _≤_, _<_}
 use native.Mathlib.Omega.{arith}
 use lib.Dec.{ltb, eqb}
 use lib.ListN.{length}
 use borrow.Author.Tests.{ltb-false, eqb-true, eqb-false, not-false, le-ltb, eq-eqb, ne-eqb}
 use Rattle.paper.specs.Outcome.{Outcome, accepted, refused, passed}
+use Rattle.paper.specs.Memory.{roomFor}
 use Rattle.paper.proofs.Tests.{refused-by, passed-by, or-none}
 use Rattle.paper.proofs.Scan.{accepted-of, accepted-by, carry}
 use Rattle.leaves.specs.Leaves.{Columns, leaves, room, equalColumns, spotAt}
-use Rattle.leaves.specs.Calls.{limit, outOfRange, walked, listed, checkList}
+use Rattle.leaves.specs.Calls.{limit, most, outOfRange, walked, listed, checkList}
 use Rattle.leaves.specs.Laws.{ValidList}
 use Rattle.leaves.proofs.Check.{exactly, walked-passed, walked-accepted, walked-refused}
+
+above : {m : ℕ} → (m ≡ 0 → ⊥) → 0 < m
+above {m} none = omega arith
+
+-- "1 to 4,096"
+pub in-range : (K : ℕ) → outOfRange K ≡ false → (0 < K) × (K ≤ most)
+in-range K right =
+    let range = or-none (eqb K 0) (ltb most K) right in
+    (above (eqb-false K 0 (range .0)), ltb-false most K (range .1))
+
+-- what has room is given
+pub room-gives : {A : Type 0} (needed there : ℕ) (a b : A) → roomFor needed there a ≡ accepted b → a ≡ b
+room-gives needed there a b h = let given = accepted-of (ltb there needed) 14 needed (accepted a) b h .1 in cc
 
 module _ (n L K : ℕ) (inRange fitting : Bool) (cs : Columns) where
   abbrev wrongNumber : Bool
@@ -50,19 +64,16 @@ module _ (n L K : ℕ) (inRange fitting : Bool) (cs : Columns) where
       (and-eq-true-iff (equalColumns cs) fitting .0 (not-false rightColumns (b .0)) .0) in
       let size = or-none (eqb (room cs) 0) (ltb limit (room cs)) (d .0) in
       let none = eqb-false (room cs) 0 (size .0) in
-      let range = or-none (eqb K 0) (ltb 4096 K) (or-none (outOfRange K) (not inRange) (a .0) .0) in
+      let range = in-range K (or-none (outOfRange K) (not inRange) (a .0) .0) in
       record {
-        some-root = above (eqb-false K 0 (range .0));
-        few-roots = ltb-false 4096 K (range .1);
+        some-root = range .0;
+        few-roots = range .1;
         levels-long = eqb-true (length (cs .roots)) (length (cs .levels)) (equal .0);
         positions-long = eqb-true (length (cs .roots)) (length (cs .positions)) (equal .1);
         some = above none;
         few = ltb-false limit (room cs) (size .1);
         valid = exactly n L K (leaves cs) .0 (d .1);
       }
-    where
-      above : {m : ℕ} → (m ≡ 0 → ⊥) → 0 < m
-      above {m} none = omega arith
 
   module _ {B : Type 0} (rest : Outcome B) where
     pub listed-passed : listed n L K inRange fitting cs passed ≡ passed → listed n L K inRange fitting cs rest ≡ rest

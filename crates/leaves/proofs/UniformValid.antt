@@ -1,15 +1,24 @@
--- A uniform list is valid: leaf i + 1 starts where leaf i ends, as i + 1 has one position more in its root or is the first of the next.
--- Assumes nothing.
-use mathlib.Core.Path.{_≡_, refl, ap, ap₂, _∙_, sym}
+-- A uniform list is valid: leaf i + 1 starts where leaf i ends, as i + 1 has one position more in its root or is the first of the next. So what
+-- an accepted start gives is a list again. Assumes nothing.
+use mathlib.Core.Path.{_≡_, refl, ap, ap₂, _∙_, sym, subst}
+use mathlib.Core.Bool.{not}
+use mathlib.Core.List.{List}
 use Prim.Native.Nat.{ℕ, zero, suc, _+_, _-_, _*_, _/_, _%_, _^_, _≤_, _<_}
 use native.Mathlib.Nat.{zero-mul, mod-lt, div-add-mod', div-lt-iff-lt-mul, mul-lt-mul-of-pos-right}
 use native.Mathlib.Decide.{decLt}
 use native.Mathlib.Omega.{arith}
+use lib.Dec.{ltb}
 use lib.ListN.{length}
-use Rattle.paper.specs.Outcome.{rows}
-use Rattle.paper.proofs.Scan.{rows-length}
-use Rattle.leaves.specs.Leaves.{Leaf, leaf, Spot, spotAt, span, past, endOf, Covers, Valid, uniformList}
+use borrow.Author.Tests.{ltb-false}
+use Rattle.paper.specs.Outcome.{accepted, rows}
+use Rattle.paper.proofs.Scan.{rows-length, accepted-of}
+use Rattle.leaves.specs.Leaves.{Leaf, leaf, Columns, columnsOf, equalColumns, room, Spot, spotAt, span, past, endOf, Covers, Valid, uniformList}
+use Rattle.leaves.specs.Calls.{limit, outOfRange, uniform}
+use Rattle.leaves.specs.Laws.{ValidList}
 use Rattle.leaves.proofs.Span.{more-mul, quotient, rest, power-pos, fill, end-last, end-within}
+use Rattle.leaves.proofs.Entries.{some-leaf}
+use Rattle.leaves.proofs.Columns.{columns-valid}
+use Rattle.leaves.proofs.Listed.{in-range, room-gives}
 
 pub uniform-length : (n L K l : ℕ) → length (uniformList n L K l) ≡ K * n ^ l
 uniform-length n L K l = rows-length _ 0 (K * n ^ l)
@@ -60,3 +69,17 @@ module _ (n L l : ℕ) (positive : 0 < n) (shallow : l ≤ L) where
 
   pub uniform-valid : (K : ℕ) → Valid n L K (uniformList n L K l)
   uniform-valid K = rw (spot-first 0 0 (sym (zero-mul (n ^ l)))) at (covers-from K 0 (K * n ^ l) (omega arith))
+
+-- ---- an accepted start
+pub uniform-listed : (n L : ℕ) → 0 < n → (K l : ℕ) (m : Columns) (ws : List Leaf) → uniform n L K l m ≡ accepted ws → ValidList n L K (columnsOf ws)
+uniform-listed n L positive K l m ws h =
+    let us = uniformList n L K l in
+    let number = accepted-of (outOfRange K) 17 0 _ ws h in
+    let equal = accepted-of (not (equalColumns m)) 11 0 _ ws (number .1) in
+    let level = accepted-of (ltb L l) 1 0 _ ws (equal .1) in
+    let size = accepted-of (ltb limit (K * n ^ l)) 15 0 _ ws (level .1) in
+    let range = in-range K (number .0) in
+    let valid = uniform-valid n L l positive (ltb-false L l (level .0)) K in
+    let few : length us ≤ limit = omega (arith, uniform-length n L K l, ltb-false limit (K * n ^ l) (size .0)) in
+    subst (λ (vs : List Leaf). ValidList n L K (columnsOf vs)) (room-gives (K * n ^ l) (room m) us ws (size .1))
+    (columns-valid n L K us (range .0) (range .1) (some-leaf n L K us (range .0) valid) few valid)

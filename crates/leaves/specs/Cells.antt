@@ -7,15 +7,18 @@
 --   InLeaf S v r e    the element e of root r lies in the leaf v
 --   OneLeaf           it lies in exactly one leaf of a list
 --   CellsOnce S K vs  each smallest cell of each of the K roots does
---   CellLaws S        all valid lists are so, at the shape's number of children and highest level; and an element of any level lies in a leaf
---                     exactly when its position, divided by how many of its level the leaf holds, is the leaf's
+--   Earlier S u v     the leaf u comes before v: by root, and within a root by the order of two elements
+--   CellLaws S        all valid lists are so, at the shape's number of children and highest level, and their leaves stand along the curve, each
+--                     before all later ones; and an element of any level lies in a leaf exactly when its position, divided by how many of its
+--                     level the leaf holds, is the leaf's
 --
 -- Not here: one element in another (`LiesIn` of `tree/specs/Ancestors.antt`). Assumes nothing.
 use mathlib.Core.Path.{_≡_}
-use mathlib.Core.Logic.{_↔_}
+use mathlib.Core.Logic.{_↔_, _⊎_}
 use mathlib.Core.List.{List}
 use Prim.Native.Nat.{ℕ, _^_, _≤_, _<_}
 use lib.ListN.{length}
+use Rattle.paper.specs.Outcome.{less}
 use Rattle.paper.specs.Exactly.{ExactlyOne}
 use Rattle.tree.specs.Shape.{Shape}
 use Rattle.tree.specs.Laws.{Sound}
@@ -42,7 +45,12 @@ module _ {E : Type 0} (S : Shape E) where
   abbrev pub CellsOnce : ℕ → List Leaf → Type 0
   CellsOnce K vs = (r : ℕ) (e : E) → r < K → Sound S e → S .level e ≡ S .highest → OneLeaf vs r e
 
+  abbrev pub Earlier : Leaf → Leaf → Type 0
+  Earlier u v = (u .root < v .root) ⊎ ((u .root ≡ v .root) × (words.order S (elementOf u) (elementOf v) ≡ less))
+
   pub record CellLaws : Type 0 where
     pub once : (K : ℕ) (vs : List Leaf) → Valid (S .children) (S .highest) K vs → CellsOnce K vs
+    pub along : (K : ℕ) (vs : List Leaf) → Valid (S .children) (S .highest) K vs
+        → (i j : ℕ) → i < j → j < length vs → Earlier (nth vs i) (nth vs j)
     pub by-position : (v : Leaf) (r : ℕ) (e : E) → Proper v → Sound S e → v .level ≤ S .level e
         → InLeaf v r e ↔ Holds (S .children) (S .level e) v r (words.position S e)

@@ -11,6 +11,7 @@
 --   room cs          how many leaves stand in them, or have room
 --   front vs cs      "An accepted call writes its result at the front of the lent columns .., and no further": the columns cs with the leaves vs
 --                    at their front
+--   firstEntries N cs  the first N entries of each column
 --   span n L l       how many smallest cells "a leaf of level l holds": n^(L-l)
 --   begin, past      the first smallest cell of its root that a leaf holds, and the first after them
 --   Spot             where a leaf may start: a root, and a smallest cell of it
@@ -26,7 +27,7 @@ use mathlib.Core.Bool.{Bool, cond, _&&_}
 use mathlib.Core.List.{List, [], _∷_, map}
 use Prim.Native.Nat.{ℕ, _+_, _-_, _*_, _/_, _%_, _^_, _≤_, _<_}
 use lib.Dec.{eqb}
-use lib.ListN.{length, getD}
+use lib.ListN.{length, getD, take}
 use Rattle.paper.specs.Outcome.{rows}
 use Rattle.paper.specs.Memory.{written}
 
@@ -75,6 +76,9 @@ front vs cs =
     (written (columnsOf vs .roots) (cs .roots))
     (written (columnsOf vs .levels) (cs .levels))
     (written (columnsOf vs .positions) (cs .positions))
+
+abbrev pub firstEntries : ℕ → Columns → Columns
+firstEntries N cs = columns (take N (cs .roots)) (take N (cs .levels)) (take N (cs .positions))
 
 -- ---- valid lists
 pub record Spot : Type 0 where

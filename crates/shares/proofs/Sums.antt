@@ -1,6 +1,6 @@
 -- Sums of the first weights: one leaf more adds its weight, so the sums rise, and a part of the list weighs the difference of two sums.
 -- Assumes nothing.
-use mathlib.Core.Path.{_≡_, refl, ap, _∙_, sym}
+use mathlib.Core.Path.{_≡_, refl, ap, _∙_, sym, subst}
 use mathlib.Core.Bool.{Bool, true, false, cond}
 use mathlib.Core.List.{List, [], _∷_, _++_}
 use Prim.Native.Nat.{ℕ, zero, suc, _+_, _-_, _*_, _≤_, _<_}
@@ -12,7 +12,7 @@ use lib.ListN.{length, getD, take, drop, replicate, take-append-drop}
 use lib.Seq.{take-suc, take-add, take-take, take-length, slice}
 use borrow.Author.Tests.{ltb-true, ltb-false}
 use Rattle.shares.specs.Shares.{total, heaviest}
-use Rattle.shares.specs.Laws.{Weighty}
+use Rattle.shares.specs.Laws.{Weighty, Heaviest}
 
 pub total-append : (xs ys : List ℕ) → total (xs ++ ys) ≡ total xs + total ys
 unfolding total
@@ -68,6 +68,33 @@ unfolding heaviest
 weight-le-heaviest [] j = omega arith
 weight-le-heaviest (w ∷ ws) zero = heavier (heaviest ws) w .1
 weight-le-heaviest (w ∷ ws) (suc j) = omega (arith, weight-le-heaviest ws j, heavier (heaviest ws) w .0)
+
+-- it is the weight of a leaf: of the first, or the heaviest of the later ones
+abbrev Weighs : List ℕ → ℕ → Type 0
+Weighs ws h = (j : ℕ) × ((j < length ws) × (getD ws j 0 ≡ h))
+
+first-weighs : (w : ℕ) (ws : List ℕ) → Weighs (w ∷ ws) w
+first-weighs w ws = (0, (omega arith, refl))
+
+only : (w : ℕ) → w ≡ cond (ltb 0 w) w 0
+only w = by (ltb 0 w) refl
+  where
+    by : (t : Bool) → ltb 0 w ≡ t → w ≡ cond t w 0
+    by true above = refl
+    by false below = omega (arith, ltb-false 0 w below)
+
+one-weighs : (ws : List ℕ) → 0 < length ws → Weighs ws (heaviest ws)
+unfolding heaviest
+one-weighs [] some = absurd (omega arith)
+one-weighs (w ∷ []) some = subst (Weighs (w ∷ [])) (only w) (first-weighs w [])
+one-weighs (w ∷ (x ∷ ws)) some = by (ltb (heaviest (x ∷ ws)) w) (one-weighs (x ∷ ws) (omega arith))
+  where
+    by : (t : Bool) → Weighs (x ∷ ws) (heaviest (x ∷ ws)) → Weighs (w ∷ (x ∷ ws)) (cond t w (heaviest (x ∷ ws)))
+    by true later = first-weighs w (x ∷ ws)
+    by false (j, (inside, weighs)) = (suc j, (omega arith, weighs))
+
+pub heaviest-is : (ws : List ℕ) → 0 < length ws → Heaviest ws (heaviest ws)
+heaviest-is ws some = record { one = one-weighs ws some; none-heavier = λ j inside. weight-le-heaviest ws j }
 
 -- ---- equal weights
 pub total-equal : (n j w : ℕ) → j ≤ n → total (take j (replicate n w)) ≡ j * w

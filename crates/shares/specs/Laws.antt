@@ -7,7 +7,8 @@
 --   Fair               what the boundaries are, and how they divide the leaves: from none to all, each leaf in one share, and
 --                      |P·weight - W| < P·heaviest, strictly, as two bounds
 --   Weighty ws         no weight is 0
---   Promised           all of it; "With equal weights this is the thesis's formula 27"; and how many boundaries there are
+--   Heaviest ws h      h is the heaviest weight: one leaf has it, and none is heavier
+--   Promised           all of it; "With equal weights this is the thesis's formula 27"; how many boundaries there are; `heaviest` is the heaviest
 --
 -- Assumes nothing.
 use mathlib.Core.Path.{_≡_}
@@ -48,7 +49,12 @@ module _ (P : ℕ) (ws : List ℕ) where
 abbrev pub Weighty : List ℕ → Type 0
 Weighty ws = (j : ℕ) → j < length ws → 0 < getD ws j 0
 
+pub record Heaviest (ws : List ℕ) (h : ℕ) : Type 0 where
+  pub one : (j : ℕ) × ((j < length ws) × (getD ws j 0 ≡ h))
+  pub none-heavier : (j : ℕ) → j < length ws → getD ws j 0 ≤ h
+
 pub record Promised : Type 0 where
   pub fair : (P : ℕ) (ws : List ℕ) → 0 < P → Weighty ws → 0 < length ws → Fair P ws
   pub equal : (P N w s : ℕ) → 0 < P → 0 < w → s ≤ P → boundary P (replicate N w) s ≡ s * N / P
   pub many : (P : ℕ) (ws : List ℕ) → length (boundaries P ws) ≡ P + 1
+  pub heaviest-is : (ws : List ℕ) → 0 < length ws → Heaviest ws (heaviest ws)
