@@ -3,8 +3,8 @@
 --   ValidGrid g   the grid g is valid
 --   FileOf bs g   the bytes bs are a file of the grid g: the tag, K, R, and runs that are those of its leaves
 --   OneFile       a list has runs, and no others; a file of a valid list is read as that list; what is read is a valid list, and the bytes
---                 are its file; every other byte string is refused, by a fault that stands whatever bytes follow it, unless bytes are missing;
---                 so "A list has one file and a file one list"
+--                 are its file; every other byte string is refused, by a fault that stands whatever bytes follow it, unless it is that bytes
+--                 are missing: 19, or 18 with less than four bytes; so "A list has one file and a file one list"
 --
 -- Assumes nothing.
 use mathlib.Core.Path.{_≡_}
@@ -39,7 +39,7 @@ module _ (n L : ℕ) where
     pub written-back : (bs : List ℕ) (g : Grid) → Bytes bs → gridAt n L bs ≡ accepted g → FileOf bs g
     pub others-refused : (bs : List ℕ) → Bytes bs → ((g : Grid) → FileOf bs g → ⊥)
         → (number : ℕ) × ((at : ℕ) × (gridAt n L bs ≡ refused number at))
-    pub stands : (bs more : List ℕ) (number at : ℕ) → gridAt n L bs ≡ refused number at → (number ≡ 18 → ⊥) → (number ≡ 19 → ⊥)
+    pub stands : (bs more : List ℕ) (number at : ℕ) → gridAt n L bs ≡ refused number at → (number ≡ 18 → 4 ≤ length bs) → (number ≡ 19 → ⊥)
         → gridAt n L (bs ++ more) ≡ refused number at
     pub one-list : (bs : List ℕ) (g g′ : Grid) → FileOf bs g → FileOf bs g′ → g ≡ g′
     pub one-file : (bs bs′ : List ℕ) (g : Grid) → FileOf bs g → FileOf bs′ g → bs ≡ bs′
