@@ -137,7 +137,7 @@ module _ (bs more : List ℕ) where
             ∙ same
 
   -- ---- the whole file
-  opens-long : opens bs ≡ true → 4 ≤ length bs
+  pub opens-long : opens bs ≡ true → 4 ≤ length bs
   opens-long h = ltb-false (length bs) 4 (not-true (ltb (length bs) 4) (and-eq-true-iff (not (ltb (length bs) 4)) _ .0 h .0))
 
   tag-stands : 4 ≤ length bs → opens (bs ++ more) ≡ opens bs
