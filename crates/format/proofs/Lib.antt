@@ -11,4 +11,6 @@ pub mod Standing
 pub mod OneFile
 pub mod Units
 pub mod Spots
+pub mod Cases
 pub mod Faults
+pub mod Placed

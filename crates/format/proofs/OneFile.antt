@@ -34,7 +34,7 @@ module _ (n L : ℕ) (positive : 0 < n) (low : L ≤ highest) where
         valid-read = valid-grid n L positive;
         written-back = accepted-file n L positive;
         others-refused = λ bs all none. by bs all none (gridAt n L bs) refl;
-        stands = λ bs more number at e other there. grid-stands bs more n L number at other there e;
+        stands = λ bs more number at e long there. grid-stands bs more n L number at long there e;
         one-list = λ bs g g′ f f′. accepted-same g g′ (sym (reads bs g f) ∙ reads bs g′ f′);
         one-file = λ bs bs′ g f f′. file-is bs g f ∙ sym (file-is bs′ g f′);
       }

@@ -1,4 +1,4 @@
--- Bytes that follow change nothing before them: a test reads only bytes that are there, so a refusal stands unless it is that a byte is missing.
+-- Bytes that follow change nothing before them: a test reads only bytes that are there, so a refusal stands unless it is that bytes are missing.
 -- Assumes nothing.
 use mathlib.Core.Path.{_≡_, refl, ap, _∙_, sym, subst}
 use mathlib.Core.Bool.{Bool, true, false, not, cond, _&&_, and-eq-true-iff}
@@ -137,14 +137,13 @@ module _ (bs more : List ℕ) where
             ∙ same
 
   -- ---- the whole file
-  opens-long : opens bs ≡ true → 4 ≤ length bs
+  pub opens-long : opens bs ≡ true → 4 ≤ length bs
   opens-long h = ltb-false (length bs) 4 (not-true (ltb (length bs) 4) (and-eq-true-iff (not (ltb (length bs) 4)) _ .0 h .0))
 
-  tag-stands : opens bs ≡ true → opens (bs ++ more) ≡ opens bs
-  tag-stands h =
-      let long = opens-long h in
+  tag-stands : 4 ≤ length bs → opens (bs ++ more) ≡ opens bs
+  tag-stands long =
       ap (λ (t : Bool). not t && tagged (byteAt (bs ++ more) 0) (byteAt (bs ++ more) 1) (byteAt (bs ++ more) 2) (byteAt (bs ++ more) 3))
-      (le-ltb (length (bs ++ more)) 4 (omega (arith, longer, long)) ∙ sym (le-ltb (length bs) 4 long))
+      (le-ltb (length (bs ++ more)) 4 (omega (arith, longer)) ∙ sym (le-ltb (length bs) 4 long))
       ∙ ap (λ (a : ℕ). not (ltb (length bs) 4) && tagged a (byteAt (bs ++ more) 1) (byteAt (bs ++ more) 2) (byteAt (bs ++ more) 3)) (List·getD-append bs more 0 0 (omega arith))
       ∙ ap (λ (a : ℕ). not (ltb (length bs) 4) && tagged (byteAt bs 0) a (byteAt (bs ++ more) 2) (byteAt (bs ++ more) 3)) (List·getD-append bs more 0 1 (omega arith))
       ∙ ap (λ (a : ℕ). not (ltb (length bs) 4) && tagged (byteAt bs 0) (byteAt bs 1) a (byteAt (bs ++ more) 3)) (List·getD-append bs more 0 2 (omega arith))
@@ -155,23 +154,23 @@ module _ (bs more : List ℕ) where
 
   head-stands : opens bs ≡ true → Settled (headAt bs) → headAt (bs ++ more) ≡ headAt bs
   head-stands h s =
-      passes (not (opens (bs ++ more))) 18 0 _ (ap not (tag-stands h ∙ h))
+      passes (not (opens (bs ++ more))) 18 0 _ (ap not (tag-stands (opens-long h) ∙ h))
       ∙ then-stands (numberAt bs 4) (numberAt (bs ++ more) 4) (afterRoots bs) (afterRoots (bs ++ more)) (number-stands 4) (λ k.
       when-wrong (outOfRange (k .value)) 17 4 _ _
       (then-stands (numberAt bs (k .next)) (numberAt (bs ++ more) (k .next)) (afterRuns k) (afterRuns k) (number-stands (k .next)) (λ r t. refl)))
       (subst Settled (passes (not (opens bs)) 18 0 _ (ap not h)) s)
       ∙ sym (passes (not (opens bs)) 18 0 _ (ap not h))
 
-  module _ (n L number at : ℕ) (other : number ≡ 18 → ⊥) (there : number ≡ 19 → ⊥) (e : gridAt n L bs ≡ refused number at) where
-    open-tag : opens bs ≡ true
-    open-tag = by (opens bs) refl
-      where
-        by : (b : Bool) → opens bs ≡ b → b ≡ true
-        by true is = refl
-        by false is = absurd (other (sym (ap numberOf (sym (ap (λ (o : Outcome Head). and-then o (headed n L bs)) (not-tagged bs is)) ∙ e))))
+  module _ (n L number at : ℕ) (long : number ≡ 18 → 4 ≤ length bs) (there : number ≡ 19 → ⊥) (e : gridAt n L bs ≡ refused number at) where
+    -- another tag stays another, once its four bytes are there
+    untagged-stands : opens bs ≡ false → gridAt n L (bs ++ more) ≡ refused number at
+    untagged-stands other =
+        let same : _≡_ {A = Outcome _} (refused 18 0) (refused number at) = sym (then-stops (headAt bs) (headed n L bs) 18 0 (not-tagged bs other)) ∙ e in
+        then-stops (headAt (bs ++ more)) (headed n L (bs ++ more)) 18 0 (not-tagged (bs ++ more) (tag-stands (long (sym (ap numberOf same))) ∙ other))
+        ∙ same
 
-    pub grid-stands : gridAt n L (bs ++ more) ≡ refused number at
-    grid-stands = by (headAt bs) refl
+    tagged-stands : opens bs ≡ true → gridAt n L (bs ++ more) ≡ refused number at
+    tagged-stands open-tag = by (headAt bs) refl
       where
         by : (o : Outcome Head) → headAt bs ≡ o → gridAt n L (bs ++ more) ≡ refused number at
         by (accepted h) is =
@@ -183,3 +182,10 @@ module _ (bs more : List ℕ) where
             let same : _≡_ {A = Outcome _} (refused m j) (refused number at) = sym (then-stops (headAt bs) (headed n L bs) m j is) ∙ e in
             then-stops (headAt (bs ++ more)) (headed n L (bs ++ more)) m j (head-stands open-tag (subst Settled (sym is) (λ missing. there (sym (ap numberOf same) ∙ missing))) ∙ is)
             ∙ same
+
+    pub grid-stands : gridAt n L (bs ++ more) ≡ refused number at
+    grid-stands = by (opens bs) refl
+      where
+        by : (b : Bool) → opens bs ≡ b → gridAt n L (bs ++ more) ≡ refused number at
+        by true is = tagged-stands is
+        by false is = untagged-stands is

@@ -1,19 +1,17 @@
 -- What stands in the lent memory after a call that was accepted: its front is the result. Assumes nothing.
 use mathlib.Core.Path.{_≡_, ap, ap₂, _∙_, sym}
-use mathlib.Core.Bool.{true}
 use mathlib.Core.List.{List}
 use Prim.Native.Nat.{ℕ}
 use native.Mathlib.Omega.{arith}
 use lib.ListN.{length, take, drop, length-map}
 use lib.Seq.{take-append-seam}
 use Rattle.paper.specs.Outcome.{Outcome, accepted}
-use Rattle.paper.specs.Memory.{written, roomFor, left}
+use Rattle.paper.specs.Memory.{written, left}
 use Rattle.paper.specs.Readings.{valueOf}
 use Rattle.paper.specs.declared.NumberAnswer.{NumberAnswer}
 use Rattle.tree.specs.Anchors.{HIGHEST}
 use Rattle.leaves.specs.Leaves.{CHILDREN, Leaf, Columns, columns, leaves, columnsOf, front}
 use Rattle.leaves.proofs.Columns.{columns-same}
-use Rattle.leaves.proofs.Listed.{listed-accepted}
 use Rattle.leaves.proofs.Entries.{leaves-of-columns}
 use Rattle.format.specs.File.{fileOf}
 use Rattle.format.specs.Reading.{Grid, gridAt}
@@ -23,7 +21,7 @@ use Rattle.reader.specs.Answers.{Size, size, gridOf}
 use Rattle.reader.specs.Calls.{read, sizeOf, FileRead}
 use Rattle.reader.specs.declared.GridAnswer.{GridAnswer}
 use Rattle.gridfile.specs.Laws.{InMemory}
-use Rattle.gridfile.proofs.RoundTrip.{room-same, read-grid}
+use Rattle.gridfile.proofs.RoundTrip.{wrote-file, read-grid}
 
 -- the front of what was written
 take-front : (xs old l : List ℕ) (N : ℕ) → l ≡ written xs old → length xs ≡ N → take N l ≡ xs
@@ -34,10 +32,8 @@ saved : (k : ℕ) (r : NumberAnswer) (cs : Columns) (bytes bytes′ : List ℕ) 
 saved k r cs bytes bytes′ needed f e =
     let due = write CHILDREN HIGHEST k cs bytes in
     let a = mapped-accepted length due needed (sym (f .answer) ∙ e) in
-    let file = fileOf k (leaves cs) in
-    let inside = listed-accepted CHILDREN HIGHEST k true true cs (roomFor (length file) (length bytes) file) (a .0) (a .1 .0) in
     let here : bytes′ ≡ written (a .0) bytes = f .memory ∙ ap (λ (o : Outcome (List ℕ)). left written o bytes) (a .1 .0) in
-    take-front (a .0) bytes bytes′ needed here (a .1 .1) ∙ sym (room-same (length file) (length bytes) file (a .0) (inside .1))
+    take-front (a .0) bytes bytes′ needed here (a .1 .1) ∙ sym (wrote-file CHILDREN HIGHEST k cs bytes (a .0) (a .1 .0))
 
 module _ (bytes : List ℕ) (r : GridAnswer) (m m′ : Columns) (K N : ℕ) (f : FileRead bytes r m m′) (e : gridOf r ≡ accepted (size K N)) where
   abbrev due : Outcome Grid

@@ -1,6 +1,7 @@
 -- What is promised of the calls of the grid file, as statements. Definitions only.
 --
---   RoundTrip     what was written is read as the list that was given; what was read is written as the bytes given
+--   RoundTrip     what was written is read as the list that was given; what was read is written as the bytes given; and a list is written for one
+--                 number of roots only, as one file
 --   InMemory      what stands in the lent memory: the file in the bytes, the list in the columns
 --
 -- Assumes nothing.
@@ -29,6 +30,8 @@ module _ (n L : ℕ) where
         → read n L file m ≡ roomFor (length (leaves cs)) (room m) (record { roots = K; leaves = leaves cs })
     pub loaded : (bs : List ℕ) (m : Columns) (g : Grid) (bytes : List ℕ) → Bytes bs → read n L bs m ≡ accepted g
         → write n L (g .roots) (columnsOf (g .leaves)) bytes ≡ roomFor (length bs) (length bytes) bs
+    pub one-roots : (K K′ : ℕ) (cs : Columns) (bytes bytes′ file file′ : List ℕ)
+        → write n L K cs bytes ≡ accepted file → write n L K′ cs bytes′ ≡ accepted file′ → (K ≡ K′) × (file ≡ file′)
 
 pub record InMemory : Type 0 where
   pub saved : (k : ℕ) (r : NumberAnswer) (cs : Columns) (bytes bytes′ : List ℕ) (needed : ℕ)
