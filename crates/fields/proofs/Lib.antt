@@ -4,3 +4,4 @@ pub mod Cutting
 pub mod Coming
 pub mod Onward
 pub mod FirstBytes
+pub mod Values

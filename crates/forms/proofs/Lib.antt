@@ -5,3 +5,4 @@ pub mod Bounds
 pub mod Deciding
 pub mod Whole
 pub mod Enough
+pub mod Refusals

@@ -2,21 +2,26 @@
 --
 --   SameShares f   `printed` prints the boundaries of all weights 1; on the columns of the uniform start, with these weights and a column
 --                  that is long enough, the list's own call for shares accepts with the same boundaries; they are the thesis's formula 27
+--   ReadsBack n    the decimal of n is digits without a leading zero, except 0 itself, and says n
+--   Small f        the numbers of the form f: each in its range, and no boundary past the last leaf
 --   Promised       the first 71 bytes decide the output; an accepted order has the numbers of its fields, and those printed are the fields
---                  themselves, byte for byte; its shares are the list's; and no output is longer than 86,212 bytes
+--                  themselves, byte for byte; its shares are the list's; no output is longer than 86,212 bytes; each number below 10^20 reads
+--                  back, and all that are printed are small: those of a form, the numbers of a refusal, and its field, 1 to 8
 --
 -- Assumes nothing.
 use mathlib.Core.Path.{_≡_}
-use mathlib.Core.List.{List, []}
-use Prim.Native.Nat.{ℕ, _+_, _-_, _*_, _/_, _≤_}
+use mathlib.Core.Bool.{true, false}
+use mathlib.Core.List.{List, [], _∷_, List·Memᴰ}
+use Prim.Native.Nat.{ℕ, _+_, _-_, _*_, _/_, _^_, _≤_, _<_}
 use lib.ListN.{length, getD, take}
-use Rattle.paper.specs.Outcome.{accepted}
+use Rattle.paper.specs.Outcome.{accepted, refused}
 use Rattle.tree.specs.Anchors.{HIGHEST}
 use Rattle.leaves.specs.Leaves.{CHILDREN, Leaf, uniformList, columnsOf}
+use Rattle.leaves.specs.Calls.{limit, most}
 use Rattle.shares.specs.Shares.{boundary, boundaries}
 use Rattle.shares.specs.Calls.{shares}
 use Rattle.forms.specs.declared.Form.{Form}
-use Rattle.fields.specs.Fields.{fields}
+use Rattle.fields.specs.Fields.{fields, allDigits, leadingZero, value}
 use Rattle.forms.specs.Forms.{numberIn, formIn, read, longestInput}
 use Rattle.text.specs.Text.{decimal, weights, longestOutput}
 use Rattle.orders.specs.Calls.{output}
@@ -31,6 +36,24 @@ pub record SameShares (f : Form) : Type 0 where
       → shares CHILDREN HIGHEST (f .roots) (f .shares) (columnsOf (started f)) (weights f) column ≡ accepted (boundaries (f .shares) (weights f))
   pub formula-27 : (s : ℕ) → s ≤ f .shares → boundary (f .shares) (weights f) s ≡ s * f .leaves / f .shares
 
+pub record ReadsBack (n : ℕ) : Type 0 where
+  pub number : value (decimal n) ≡ n
+  pub digits : allDigits (decimal n) ≡ true
+  pub plain : leadingZero (decimal n) ≡ false
+
+pub record Small (f : Form) : Type 0 where
+  pub order : f .order < 10 ^ 9
+  pub site : f .site < 10 ^ 9
+  pub model : f .model < 10 ^ 9
+  pub some-root : 1 ≤ f .roots
+  pub few-roots : f .roots ≤ most
+  pub level : f .level ≤ HIGHEST
+  pub some-leaf : 1 ≤ f .leaves
+  pub few-leaves : f .leaves ≤ limit
+  pub some-share : 1 ≤ f .shares
+  pub few-shares : f .shares ≤ most
+  pub boundaries : (s : ℕ) → s ≤ f .shares → boundary (f .shares) (weights f) s ≤ f .leaves
+
 pub record Promised : Type 0 where
   pub first-bytes : (s : List ℕ) → output (take longestInput s) ≡ output s
   pub ordered : (s : List ℕ) (f : Form) → read s ≡ accepted f → formIn (fields s) ≡ f
@@ -38,3 +61,7 @@ pub record Promised : Type 0 where
       → decimal (numberIn (fields s) i) ≡ getD (fields s) (i - 1) []
   pub same-shares : (s : List ℕ) (f : Form) → read s ≡ accepted f → SameShares f
   pub room : (s : List ℕ) → length (output s) ≤ longestOutput
+  pub reads-back : (n : ℕ) → n < 10 ^ 20 → ReadsBack n
+  pub small : (s : List ℕ) (f : Form) → read s ≡ accepted f → Small f
+  pub fields-1-to-8 : (s : List ℕ) (number field : ℕ) → read s ≡ refused number field
+      → List·Memᴰ number (1 ∷ 15 ∷ 17 ∷ 23 ∷ []) × ((1 ≤ field) × (field ≤ 8))

@@ -13,20 +13,20 @@ use Rattle.text.specs.Inner.{Put}
 use Rattle.text.proofs.Writing.{put-byte, put-then}
 
 -- one digit fewer
-tenth : (n k : ℕ) → n < 10 ^ suc k → n / 10 < 10 ^ k
+pub tenth : (n k : ℕ) → n < 10 ^ suc k → n / 10 < 10 ^ k
 tenth n k below = let ten : 0 < 10 = omega arith in div-lt-iff-lt-mul ten .1 (rw (pow-suc 10 k) at below)
 
 module _ (k n : ℕ) where
-  digits-small : n < 10 → decimalIn (suc k) n ≡ (48 + n) ∷ []
+  pub digits-small : n < 10 → decimalIn (suc k) n ≡ (48 + n) ∷ []
   unfolding decimalIn
   digits-small small = simp (lt-ltb n 10 small)
 
-  digits-more : 10 ≤ n → decimalIn (suc k) n ≡ decimalIn k (n / 10) ++ ((48 + n % 10) ∷ [])
+  pub digits-more : 10 ≤ n → decimalIn (suc k) n ≡ decimalIn k (n / 10) ++ ((48 + n % 10) ∷ [])
   unfolding decimalIn
   digits-more large = simp (le-ltb n 10 large)
 
 -- a number of two digits needs room for them
-two-digits : (k n : ℕ) → n < 10 ^ suc k → 10 ≤ n → 1 ≤ k
+pub two-digits : (k n : ℕ) → n < 10 ^ suc k → 10 ≤ n → 1 ≤ k
 two-digits zero n below large = absurd (omega arith)
 two-digits (suc k) n below large = omega arith
 

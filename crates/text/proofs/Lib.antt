@@ -4,3 +4,4 @@ pub mod Lines
 pub mod Sharing
 pub mod Room
 pub mod Repeating
+pub mod ReadingBack

@@ -1,27 +1,22 @@
 -- A field's number, printed, is the field: each digit read makes the number ten times as large, and each digit printed divides it by ten.
 -- Assumes nothing.
 use mathlib.Core.Path.{_≡_, refl, ap, ap₂, _∙_, sym}
-use mathlib.Core.Bool.{Bool, true, false, not, and-eq-true-iff, false≢true}
+use mathlib.Core.Bool.{Bool, true, false, not, false≢true}
 use mathlib.Core.List.{List, [], _∷_, _++_, append-assoc, append-nil}
 use Prim.Native.Nat.{ℕ, suc, _+_, _-_, _*_, _/_, _%_, _^_, _≤_, _<_}
 use native.Mathlib.Nat.{pow-le-pow-right}
 use native.Mathlib.Omega.{arith}
-use lib.Dec.{eqb, leb}
+use lib.Dec.{eqb}
 use lib.ListN.{length, getD}
-use borrow.Author.Tests.{leb-true, eqb-true, eqb-false, eq-eqb, not-true, not-false}
-use Rattle.paper.proofs.Tests.{no-fault}
-use Rattle.fields.specs.Fields.{isDigit, allDigits, leadingZero, isNumber, valueFrom, value}
-use Rattle.forms.specs.Forms.{given, numberIn, outside, fault}
+use borrow.Author.Tests.{eqb-true, eqb-false, eq-eqb, not-false}
+use Rattle.fields.specs.Fields.{allDigits, leadingZero, isNumber, valueFrom, value}
+use Rattle.forms.specs.Forms.{given, numberIn, fault}
 use Rattle.forms.proofs.Meaning.{given-other}
+use Rattle.forms.proofs.Bounds.{in-field}
 use Rattle.text.specs.Text.{decimal}
 use Rattle.fields.proofs.Numbers.{digit-below}
+use Rattle.fields.proofs.Values.{all-parts, number-parts}
 use Rattle.text.proofs.Decimals.{decimal-small, decimal-more}
-
--- ---- a digit
-is-digit : (b : ℕ) → isDigit b ≡ true → (48 ≤ b) × (b ≤ 57)
-is-digit b is =
-    let both = and-eq-true-iff (leb 48 b) (leb b 57) .0 is in
-    (leb-true 48 b (both .0), leb-true b 57 (both .1))
 
 -- one digit more, after the number n
 digit-after : (n b : ℕ) → 1 ≤ n → n < 1000000000 → 48 ≤ b → b ≤ 57 → decimal (n * 10 + (b - 48)) ≡ decimal n ++ (b ∷ [])
@@ -32,16 +27,15 @@ digit-after n b some small low high =
 
 -- ---- digits after the number n, which has i digits
 digits-after : (f : List ℕ) (n i : ℕ) → allDigits f ≡ true → 1 ≤ n → n < 10 ^ i → i + length f ≤ 9 → decimal (valueFrom n f) ≡ decimal n ++ f
-unfolding allDigits valueFrom
+unfolding valueFrom
 digits-after [] n i all some below short = sym (append-nil (decimal n))
 digits-after (b ∷ f) n i all some below short =
-    let both = and-eq-true-iff (isDigit b) (allDigits f) .0 all in
-    let digit = is-digit b (both .0) in
+    let digit = all-parts b f all in
     let low = digit .0 in
     let high = digit .1 in
     let few : i ≤ 9 = omega arith in
     let small : 10 ^ i ≤ 10 ^ 9 = pow-le-pow-right (omega arith) few in
-    digits-after f (n * 10 + (b - 48)) (i + 1) (both .1) (omega arith) (digit-below n i (b - 48) below (omega arith)) (omega arith)
+    digits-after f (n * 10 + (b - 48)) (i + 1) (digit .2) (omega arith) (digit-below n i (b - 48) below (omega arith)) (omega arith)
     ∙ ap (λ (ds : List ℕ). ds ++ f) (digit-after n b some (omega arith) low high)
     ∙ append-assoc (decimal n) (b ∷ []) f
 
@@ -72,26 +66,14 @@ lone-zero b f plain is =
     let one = eqb-true (suc (length f)) 1 (not-false (eqb (suc (length f)) 1) only) in
     empty-of f (omega (arith, one))
 
-all-parts : (b : ℕ) (f : List ℕ) → allDigits (b ∷ f) ≡ true → (48 ≤ b) × (b ≤ 57) × (allDigits f ≡ true)
-unfolding allDigits
-all-parts b f all =
-    let both = and-eq-true-iff (isDigit b) (allDigits f) .0 all in
-    let digit = is-digit b (both .0) in
-    (digit .0, digit .1, both .1)
-
 pub decimal-value : (f : List ℕ) → isNumber f ≡ true → decimal (value f) ≡ f
 decimal-value [] is = absurd (false≢true is)
 decimal-value (b ∷ f) is =
-    let some = and-eq-true-iff (leb 1 (suc (length f))) _ .0 is in
-    let few = and-eq-true-iff (leb (suc (length f)) 9) _ .0 (some .1) in
-    let rest = and-eq-true-iff (not (leadingZero (b ∷ f))) (allDigits (b ∷ f)) .0 (few .1) in
-    let digits = all-parts b f (rest .1) in
-    let short = leb-true (suc (length f)) 9 (few .0) in
-    first-digit b f (digits .0) (digits .1) (digits .2) (omega arith) (lone-zero b f (not-true (leadingZero (b ∷ f)) (rest .0)))
+    let number = number-parts (b ∷ f) is in
+    let digits = all-parts b f (number .digits) in
+    first-digit b f (digits .0) (digits .1) (digits .2) (omega (arith, number .short)) (lone-zero b f (number .plain))
 
 -- ---- the fields that the first line repeats
 pub field-repeated : (fs : List (List ℕ)) (i : ℕ) → i ≤ 6 → fault fs i ≡ 0 → decimal (numberIn fs i) ≡ getD fs (i - 1) []
 field-repeated fs i early none =
-    let range = outside i (numberIn fs i) (numberIn fs 4) (numberIn fs 5) in
-    let is = no-fault (not (isNumber (given fs i))) 22 range (no-fault (leb (length fs) (i - 1)) 22 _ none .1) .0 in
-    decimal-value (given fs i) (not-false (isNumber (given fs i)) is) ∙ given-other i (getD fs (i - 1) []) (λ d. omega (arith, d))
+    decimal-value (given fs i) (not-false (isNumber (given fs i)) (in-field fs i none .0)) ∙ given-other i (getD fs (i - 1) []) (λ d. omega (arith, d))

@@ -3,7 +3,7 @@
 use mathlib.Core.Path.{_≡_, refl}
 use mathlib.Core.List.{List, [], _∷_, _++_}
 use Prim.Native.Nat.{ℕ, zero, suc, _+_, _-_, _*_, _/_, _^_, _≤_, _<_}
-use native.Mathlib.Nat.{div-le-of-le-mul, mul-le-mul-right}
+use native.Mathlib.Nat.{div-le-of-le-mul, mul-le-mul-right, le-trans}
 use native.Mathlib.Omega.{arith}
 use lib.ListN.{length, length-append}
 use Rattle.paper.specs.Outcome.{Outcome, accepted, refused, rows}
@@ -34,17 +34,18 @@ chained-few line i (suc k) short =
     omega (arith, length-append (line i) (chained (rows line (suc i) k)))
 
 module _ (f : Form) (sound : Orderly f) where
-  boundary-few : (s : ℕ) → s ≤ f .shares → boundary (f .shares) (weights f) s ≤ 1048576
+  pub boundary-few : (s : ℕ) → s ≤ f .shares → boundary (f .shares) (weights f) s ≤ f .leaves
   boundary-few s inside =
       let part : s * f .leaves / f .shares ≤ f .leaves = div-le-of-le-mul (f .shares) (mul-le-mul-right (f .leaves) inside) in
-      omega (arith, boundary-first f sound s inside, sound .few-leaves)
+      omega (arith, boundary-first f sound s inside)
 
   form-few : length (printed (accepted f)) ≤ longestOutput
   form-few =
       let few = sound .few-shares in
       let lines : length (shareLines (boundary (f .shares) (weights f)) (f .shares)) ≤ 21 * f .shares =
       chained-few _ 0 (f .shares)
-      (λ s below. line-few s (boundary (f .shares) (weights f) s) (boundary (f .shares) (weights f) (s + 1)) (omega arith) (boundary-few s (omega arith)) (boundary-few (s + 1) (omega arith))) in
+      (λ s below. line-few s (boundary (f .shares) (weights f) s) (boundary (f .shares) (weights f) (s + 1)) (omega arith)
+      (le-trans (boundary-few s (omega arith)) (sound .few-leaves)) (le-trans (boundary-few (s + 1) (omega arith)) (sound .few-leaves))) in
       omega (arith, first-few f, length-append (firstLine f) (shareLines (boundary (f .shares) (weights f)) (f .shares)))
 
 pub printed-few : (o : Outcome Form) → ((f : Form) → o ≡ accepted f → Orderly f) → length (printed o) ≤ longestOutput
