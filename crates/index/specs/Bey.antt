@@ -1,12 +1,12 @@
--- Document 01, "Elements": "This is Bey's rule (thesis, definition 3) in the order of the index", and the thesis's definition 4, which divides
--- a prism: "In der Höhe wird es halbiert, die Grundfläche des Prismas soll wie in Definition 3 geteilt werden". Definitions only.
+-- Document 01, "Elements": "This is Bey's rule (thesis, definition 3) in the order of the index", and the thesis's definition 4: a prism is
+-- halved in height and its base is divided as in definition 3. Definitions only.
 --
 --   Midpoint m a b     m lies half way between a and b; PrismMidpoint m a b the same of corners of a prism, in plan and in height
 --   beyChild i         the thesis's definition 3: the corners of Bey's child i, as pairs of the parent's corner numbers whose
 --                      midpoints they are (its T0 reads x2 where x02 is meant)
 --   beyNumber t i      which of Bey's children is child i by curve number, of a parent of type t: "Bey's numbers are not curve numbers"
 --   beyPrismChild i    the thesis's definition 4: the corners of child i of a prism, in the same way
---   beyPrismNumber t i   which of those is child i by curve number: "4 times the line number plus the triangle number", that one by Bey
+--   beyPrismNumber t i   which of those is child i by curve number: 4 times the line number plus the triangle's number, Bey's
 --   Bey L              the children are Bey's, of triangles and of prisms
 --
 -- Assumes nothing.

@@ -1,7 +1,7 @@
 -- Document 01, "Elements": the corner points of a line, and which of them lie in a face. Definitions only.
 --
---   corner L e i       corner 0 is x, corner 1 is x + h
---   corners L e        "the line from z to z+h", here from x: its corners as the paper writes them
+--   corners L e        x and x+h
+--   corner L e i       corner i of them
 --   facePoints L e i   the corner points of face i: face 0, towards x-h, is corner 0, and face 1, towards x+h, is corner 1
 --   faces L e          its two ends
 --   faceAcross i       the number of that face as the neighbour has it
