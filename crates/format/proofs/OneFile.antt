@@ -14,6 +14,7 @@ use Rattle.format.proofs.Taking.{accepted-same}
 use Rattle.format.proofs.Accepting.{valid-grid, accepted-file}
 use Rattle.format.proofs.Standing.{grid-stands}
 use Rattle.format.proofs.AreRuns.{runs-are, runs-only}
+use Rattle.format.proofs.Placed.{grid-placed}
 
 module _ (n L : ℕ) (positive : 0 < n) (low : L ≤ highest) where
   -- a file is that of its list, whatever runs it names
@@ -35,6 +36,7 @@ module _ (n L : ℕ) (positive : 0 < n) (low : L ≤ highest) where
         written-back = accepted-file n L positive;
         others-refused = λ bs all none. by bs all none (gridAt n L bs) refl;
         stands = λ bs more number at e long there. grid-stands bs more n L number at long there e;
+        placed = λ bs number at e. grid-placed bs n L number at e .0;
         one-list = λ bs g g′ f f′. accepted-same g g′ (sym (reads bs g f) ∙ reads bs g′ f′);
         one-file = λ bs bs′ g f f′. file-is bs g f ∙ sym (file-is bs′ g f′);
       }

@@ -16,7 +16,6 @@ use Rattle.numbers.specs.Numbers.{numberAt}
 use Rattle.numbers.proofs.Cases.{few-bytes}
 use Rattle.format.specs.File.{Run, runsOf, runBytes, fileOf}
 use Rattle.format.specs.Reading.{opens, Head, afterRuns, afterRoots, headAt, leavesFrom, FoundRun, Walk, start, Sounded, preceded, go-on, afterLast, keep, runAt, soundFrom, headed, gridAt}
-use Rattle.format.specs.Laws.{Placed}
 use Rattle.format.proofs.Cases.{Either, value, fault, when, next, wider, under, of-fault}
 use Rattle.format.proofs.Faults.{Within, FaultWithin, number-placed, run-placed}
 use Rattle.format.proofs.Runs.{runs-few}
@@ -61,6 +60,9 @@ module _ (bs : List ℕ) where
             wider (later r) (fault-wider (r .next) (r .next + 6 * R) (w .next) (w .next + 6 * suc R) (omega arith) (one .inside))
         by _ (fault {number} {place} wrong) later =
             fault (fault-wider (w .next) (w .next + 6) (w .next) (w .next + 6 * suc R) (omega arith) (λ there. there) number place wrong)
+
+    pub runs-placed : (R : ℕ) (w : Walk) (number at : ℕ) → soundFrom n L bs K R w .fault ≡ refused number at → at ≤ w .next + 6 * R
+    runs-placed R w number at is = of-fault number at (sound-placed R w) is .place .near
 
 -- ---- the front
 module _ (bs : List ℕ) where
@@ -120,13 +122,3 @@ pub file-small : (K : ℕ) (vs : List Leaf) → length (fileOf K vs) ≤ 10 + 6 
 file-small K vs =
     let rs = runsOf vs in
     simp length-append (omega (arith, few-bytes K, few-bytes (length rs), run-bytes-few rs, runs-few vs))
-
-pub placed : (n L : ℕ) → Placed n L
-placed n L =
-    record {
-      in-file = λ bs number at is. grid-placed bs n L number at is .0;
-      placed = λ bs number at is. grid-placed bs n L number at is .1;
-      in-head = head-placed;
-      in-runs = λ bs K R w number at is. of-fault number at (sound-placed bs n L K R w) is .place .near;
-      file-small = file-small;
-    }

@@ -4,21 +4,20 @@
 --   FileOf bs g   the bytes bs are a file of the grid g: the tag, K, R, and runs that are those of its leaves
 --   OneFile       a list has runs, and no others; a file of a valid list is read as that list; what is read is a valid list, and the bytes
 --                 are its file; every other byte string is refused, by a fault that stands whatever bytes follow it, unless it is that bytes
---                 are missing: 19, or 18 with less than four bytes; so "A list has one file and a file one list"
---   Placed        where a fault may lie: in the file, and not far on; and how long a file may be. The tag has 4 bytes, K and R have at most 3
---                 each (a K in range 2), and a run 6; there are at most as many runs as leaves
+--                 are missing: 19, or 18 with less than four bytes; a fault's place is an offset in the file, or its end; so "A list has one
+--                 file and a file one list"
 --
 -- Assumes nothing.
 use mathlib.Core.Path.{_≡_}
 use mathlib.Core.List.{List, _++_}
-use Prim.Native.Nat.{ℕ, _+_, _*_, _≤_, _<_}
+use Prim.Native.Nat.{ℕ, _≤_, _<_}
 use lib.ListN.{length}
 use Rattle.paper.specs.Outcome.{accepted, refused}
 use Rattle.leaves.specs.Leaves.{Leaf, Valid}
 use Rattle.leaves.specs.Calls.{limit, most}
 use Rattle.numbers.specs.Laws.{Bytes}
-use Rattle.format.specs.File.{Run, runsOf, runsFile, fileOf, AreRuns}
-use Rattle.format.specs.Reading.{Grid, headAt, Walk, soundFrom, gridAt}
+use Rattle.format.specs.File.{Run, runsOf, runsFile, AreRuns}
+use Rattle.format.specs.Reading.{Grid, gridAt}
 
 module _ (n L : ℕ) where
   pub record ValidGrid (g : Grid) : Type 0 where
@@ -43,12 +42,6 @@ module _ (n L : ℕ) where
         → (number : ℕ) × ((at : ℕ) × (gridAt n L bs ≡ refused number at))
     pub stands : (bs more : List ℕ) (number at : ℕ) → gridAt n L bs ≡ refused number at → (number ≡ 18 → 4 ≤ length bs) → (number ≡ 19 → ⊥)
         → gridAt n L (bs ++ more) ≡ refused number at
+    pub placed : (bs : List ℕ) (number at : ℕ) → gridAt n L bs ≡ refused number at → at ≤ length bs
     pub one-list : (bs : List ℕ) (g g′ : Grid) → FileOf bs g → FileOf bs g′ → g ≡ g′
     pub one-file : (bs bs′ : List ℕ) (g : Grid) → FileOf bs g → FileOf bs′ g → bs ≡ bs′
-
-  pub record Placed : Type 0 where
-    pub in-file : (bs : List ℕ) (number at : ℕ) → gridAt n L bs ≡ refused number at → at ≤ length bs
-    pub placed : (bs : List ℕ) (number at : ℕ) → gridAt n L bs ≡ refused number at → at ≤ 10 + 6 * limit
-    pub in-head : (bs : List ℕ) (number at : ℕ) → headAt bs ≡ refused number at → at ≤ 6
-    pub in-runs : (bs : List ℕ) (K R : ℕ) (w : Walk) (number at : ℕ) → soundFrom n L bs K R w .fault ≡ refused number at → at ≤ w .next + 6 * R
-    pub file-small : (K : ℕ) (vs : List Leaf) → length (fileOf K vs) ≤ 10 + 6 * length vs

@@ -15,7 +15,7 @@ use Rattle.paper.specs.Memory.{roomFor}
 use Rattle.paper.specs.Readings.{valueOf}
 use Rattle.paper.specs.declared.NumberAnswer.{NumberAnswer}
 use Rattle.tree.specs.Anchors.{HIGHEST}
-use Rattle.leaves.specs.Leaves.{CHILDREN, Columns, columns, leaves, columnsOf, equalColumns, room}
+use Rattle.leaves.specs.Leaves.{CHILDREN, Columns, leaves, columnsOf, firstEntries, equalColumns, room}
 use Rattle.numbers.specs.Laws.{Bytes}
 use Rattle.format.specs.File.{fileOf}
 use Rattle.format.specs.Reading.{Grid, gridAt}
@@ -38,4 +38,4 @@ pub record InMemory : Type 0 where
       → FileWritten k r cs bytes bytes′ → valueOf r ≡ accepted needed → take needed bytes′ ≡ fileOf k (leaves cs)
   pub loaded : (bytes : List ℕ) (r : GridAnswer) (m m′ : Columns) (K N : ℕ) → FileRead bytes r m m′ → gridOf r ≡ accepted (size K N)
       → gridAt CHILDREN HIGHEST bytes
-      ≡ accepted (record { roots = K; leaves = leaves (columns (take N (m′ .roots)) (take N (m′ .levels)) (take N (m′ .positions))) })
+      ≡ accepted (record { roots = K; leaves = leaves (firstEntries N m′) })

@@ -7,13 +7,16 @@ use native.Mathlib.Omega.{arith}
 use lib.ListN.{length}
 use Rattle.tree.specs.Shape.{Shape}
 use Rattle.tree.specs.Laws.{Sound, Lawful}
+use Rattle.paper.specs.Exactly.{Exactly}
 use Rattle.tree.specs.Ancestors.{up}
+use Rattle.tree.specs.Descendants.{Descends}
 use Rattle.tree.proofs.RoundTrip.{round-trips}
 use Rattle.tree.proofs.Ancestors.{above}
+use Rattle.tree.proofs.Descendants.{descendants}
 use Rattle.tree.specs.Words as words
-use Rattle.leaves.specs.Leaves.{Leaf, nth, Valid}
+use Rattle.leaves.specs.Leaves.{Leaf, nth, span, Valid}
 use Rattle.leaves.specs.Laws.{Holds}
-use Rattle.leaves.specs.Cells.{Proper, InLeaf, OneLeaf, CellsOnce, CellLaws}
+use Rattle.leaves.specs.Cells.{elementOf, Proper, InLeaf, OneLeaf, CellsOnce, CellLaws}
 use Rattle.leaves.proofs.Cells.{Once, once-each}
 use Rattle.leaves.proofs.Along.{proper-at, along}
 
@@ -74,10 +77,19 @@ module _ {E : Type 0} (S : Shape E) (W : Lawful S) where
                 (subst (λ (l : ℕ). Holds (S .children) l (nth vs j) r (words.position S e)) smallest (holds-of (nth vs j) r e (proper j inside) sound (deep j inside) held));
           }
 
+  cells-many : (v : Leaf) → Proper S v → Exactly (span (S .children) (S .highest) (v .level)) (Descends S (elementOf S v) (S .highest))
+  cells-many v proper =
+      let level = round-trips S W .at-level (v .level) (v .position) in
+      let sound = round-trips S W .at-sound (v .level) (v .position) (proper .level) (proper .position) in
+      let shallow = proper .level in
+      subst (λ (l : ℕ). Exactly (span (S .children) (S .highest) l) (Descends S (elementOf S v) (S .highest))) level
+      (descendants S W .many (elementOf S v) (S .highest) sound (omega (arith, level)) (omega arith))
+
   pub cell-laws : CellLaws S
   cell-laws =
       record {
         once = cells-once;
+        many = cells-many;
         along = along S W;
         by-position = λ v r e proper sound deep. (holds-of v r e proper sound deep, of-holds v r e proper sound deep);
       }

@@ -1,6 +1,6 @@
 -- What stands in columns: entry by entry; leaves written at the front are the first entries; the columns of a valid list's leaves are one.
 -- Assumes nothing.
-use mathlib.Core.Path.{_≡_, ap, _∙_, sym, subst⁻¹}
+use mathlib.Core.Path.{_≡_, ap, ap₂, _∙_, sym, subst⁻¹}
 use mathlib.Core.List.{List, map}
 use Prim.Native.Nat.{ℕ, zero, suc, _+_, _≤_, _<_}
 use native.Mathlib.Nat.{add-zero, add-suc, suc-add, zero-add}
@@ -44,6 +44,9 @@ first-front vs m =
     (first-written (λ (v : Leaf). v .root) vs (m .roots))
     (first-written (λ (v : Leaf). v .level) vs (m .levels))
     (first-written (λ (v : Leaf). v .position) vs (m .positions))
+
+pub first-of : (vs : List Leaf) (m m′ : Columns) (N : ℕ) → m′ ≡ front vs m → length vs ≡ N → firstEntries N m′ ≡ columnsOf vs
+first-of vs m m′ N is long = ap₂ firstEntries (sym long) is ∙ first-front vs m
 
 -- ---- the columns of a valid list's leaves
 pub columns-valid : (n L K : ℕ) (vs : List Leaf) → 0 < K → K ≤ most → 0 < length vs → length vs ≤ limit → Valid n L K vs

@@ -9,8 +9,8 @@
 --   CellsOnce S K vs  each smallest cell of each of the K roots does
 --   Earlier S u v     the leaf u comes before v: by root, and within a root by the order of two elements
 --   CellLaws S        all valid lists are so, at the shape's number of children and highest level, and their leaves stand along the curve, each
---                     before all later ones; and an element of any level lies in a leaf exactly when its position, divided by how many of its
---                     level the leaf holds, is the leaf's
+--                     before all later ones; "a leaf of level l holds 8^(21-l)" smallest cells, counted; and an element of any level lies in a
+--                     leaf exactly when its position, divided by how many of its level the leaf holds, is the leaf's
 --
 -- Not here: one element in another (`LiesIn` of `tree/specs/Ancestors.antt`). Assumes nothing.
 use mathlib.Core.Path.{_≡_}
@@ -19,12 +19,13 @@ use mathlib.Core.List.{List}
 use Prim.Native.Nat.{ℕ, _^_, _≤_, _<_}
 use lib.ListN.{length}
 use Rattle.paper.specs.Outcome.{less}
-use Rattle.paper.specs.Exactly.{ExactlyOne}
+use Rattle.paper.specs.Exactly.{ExactlyOne, Exactly}
 use Rattle.tree.specs.Shape.{Shape}
 use Rattle.tree.specs.Laws.{Sound}
 use Rattle.tree.specs.Ancestors.{LiesIn}
+use Rattle.tree.specs.Descendants.{Descends}
 use Rattle.tree.specs.Words as words
-use Rattle.leaves.specs.Leaves.{Leaf, nth, Valid}
+use Rattle.leaves.specs.Leaves.{Leaf, nth, span, Valid}
 use Rattle.leaves.specs.Laws.{Holds}
 
 module _ {E : Type 0} (S : Shape E) where
@@ -52,5 +53,6 @@ module _ {E : Type 0} (S : Shape E) where
     pub once : (K : ℕ) (vs : List Leaf) → Valid (S .children) (S .highest) K vs → CellsOnce K vs
     pub along : (K : ℕ) (vs : List Leaf) → Valid (S .children) (S .highest) K vs
         → (i j : ℕ) → i < j → j < length vs → Earlier (nth vs i) (nth vs j)
+    pub many : (v : Leaf) → Proper v → Exactly (span (S .children) (S .highest) (v .level)) (Descends S (elementOf v) (S .highest))
     pub by-position : (v : Leaf) (r : ℕ) (e : E) → Proper v → Sound S e → v .level ≤ S .level e
         → InLeaf v r e ↔ Holds (S .children) (S .level e) v r (words.position S e)

@@ -7,7 +7,6 @@ use Rattle.forms.specs.declared.Form.{Form}
 use Rattle.forms.specs.Forms.{read}
 use Rattle.forms.proofs.Bounds.{Orderly, form-clean, form-is, form-orderly}
 use Rattle.forms.proofs.Enough.{read-first}
-use Rattle.forms.proofs.Refusals.{read-refused}
 use Rattle.fields.specs.Fields.{fields}
 use Rattle.text.specs.Text.{printed}
 use Rattle.text.proofs.Room.{boundary-few, printed-few}
@@ -46,5 +45,4 @@ promised =
       room = λ s. printed-few (read s) (form-orderly s);
       reads-back = reads-back;
       small = λ s f is. form-small f (form-orderly s f is);
-      fields-1-to-8 = read-refused;
     }

@@ -1,5 +1,5 @@
 -- The uniform start is a valid list with a weight 1 for each leaf, so the call for its shares accepts. Assumes nothing.
-use mathlib.Core.Path.{_≡_, refl, ap₂, _∙_, sym, subst}
+use mathlib.Core.Path.{_≡_, refl, ap₂, _∙_, sym}
 use mathlib.Core.Bool.{Bool, true, not}
 use mathlib.Core.List.{List, [], _∷_, map}
 use Prim.Native.Nat.{ℕ, suc, _+_, _≤_, _<_}
@@ -10,11 +10,12 @@ use borrow.Author.Tests.{eq-eqb, ne-eqb, le-ltb}
 use Rattle.paper.specs.Outcome.{Outcome, accepted, scan}
 use Rattle.paper.specs.Memory.{roomFor}
 use Rattle.tree.specs.Anchors.{HIGHEST}
-use Rattle.leaves.specs.Leaves.{CHILDREN, Leaf, columnsOf, room, Valid}
+use Rattle.leaves.specs.Leaves.{CHILDREN, Leaf, columnsOf, room}
 use Rattle.leaves.specs.Calls.{outOfRange, listed}
 use Rattle.leaves.specs.Laws.{ValidList}
 use Rattle.leaves.proofs.Listed.{valid-passes, listed-passed}
-use Rattle.leaves.proofs.Entries.{some-leaf, leaves-of-columns}
+use Rattle.leaves.proofs.Columns.{columns-valid}
+use Rattle.leaves.proofs.Entries.{some-leaf}
 use Rattle.leaves.proofs.UniformValid.{uniform-length, uniform-valid}
 use Rattle.shares.specs.Shares.{boundaries}
 use Rattle.shares.specs.Calls.{weightFault, shares}
@@ -38,17 +39,9 @@ module _ (f : Form) (sound : Orderly f) where
 
   valid : ValidList CHILDREN HIGHEST (f .roots) (columnsOf (started f))
   valid =
-      let covers : Valid CHILDREN HIGHEST (f .roots) (started f) = uniform-valid CHILDREN HIGHEST (f .level) (omega arith) (sound .shallow) (f .roots) in
-      let long : room (columnsOf (started f)) ≡ length (started f) = length-map (started f) (λ (v : Leaf). v .root) in
-      record {
-        some-root = sound .some-root;
-        few-roots = sound .few-roots;
-        levels-long = long ∙ sym (length-map (started f) (λ (v : Leaf). v .level));
-        positions-long = long ∙ sym (length-map (started f) (λ (v : Leaf). v .position));
-        some = omega (arith, long, some-leaf CHILDREN HIGHEST (f .roots) (started f) (sound .some-root) covers);
-        few = omega (arith, long, leaf-count, sound .few-leaves);
-        valid = subst (Valid CHILDREN HIGHEST (f .roots)) (sym (leaves-of-columns (started f))) covers;
-      }
+      let covers = uniform-valid CHILDREN HIGHEST (f .level) (omega arith) (sound .shallow) (f .roots) in
+      columns-valid CHILDREN HIGHEST (f .roots) (started f) (sound .some-root) (sound .few-roots)
+      (some-leaf CHILDREN HIGHEST (f .roots) (started f) (sound .some-root) covers) (omega (arith, leaf-count, sound .few-leaves)) covers
 
   module _ (column : List ℕ) (long : f .shares + 1 ≤ length column) where
     abbrev cut : Outcome (List ℕ)

@@ -6,15 +6,15 @@
 --   Small f        the numbers of the form f: each in its range, and no boundary past the last leaf
 --   Promised       the first 71 bytes decide the output; an accepted order has the numbers of its fields, and those printed are the fields
 --                  themselves, byte for byte; its shares are the list's; no output is longer than 86,212 bytes; each number below 10^20 reads
---                  back, and all that are printed are small: those of a form, the numbers of a refusal, and its field, 1 to 8
+--                  back, and all that an accepted order prints are small (a refusal's number and field: `promises/specs/Demand1.antt`)
 --
 -- Assumes nothing.
 use mathlib.Core.Path.{_≡_}
 use mathlib.Core.Bool.{true, false}
-use mathlib.Core.List.{List, [], _∷_, List·Memᴰ}
+use mathlib.Core.List.{List, []}
 use Prim.Native.Nat.{ℕ, _+_, _-_, _*_, _/_, _^_, _≤_, _<_}
 use lib.ListN.{length, getD, take}
-use Rattle.paper.specs.Outcome.{accepted, refused}
+use Rattle.paper.specs.Outcome.{accepted}
 use Rattle.tree.specs.Anchors.{HIGHEST}
 use Rattle.leaves.specs.Leaves.{CHILDREN, Leaf, uniformList, columnsOf}
 use Rattle.leaves.specs.Calls.{limit, most}
@@ -63,5 +63,3 @@ pub record Promised : Type 0 where
   pub room : (s : List ℕ) → length (output s) ≤ longestOutput
   pub reads-back : (n : ℕ) → n < 10 ^ 20 → ReadsBack n
   pub small : (s : List ℕ) (f : Form) → read s ≡ accepted f → Small f
-  pub fields-1-to-8 : (s : List ℕ) (number field : ℕ) → read s ≡ refused number field
-      → List·Memᴰ number (1 ∷ 15 ∷ 17 ∷ 23 ∷ []) × ((1 ≤ field) × (field ≤ 8))

@@ -1,8 +1,10 @@
--- A call that fulfils its outcome is decided, since its answer and its memory are; and a refusal leaves the memory as it was. Assumes nothing.
-use mathlib.Core.Path.{_≡_, ap, _∙_, sym}
+-- A call that fulfils its outcome is decided, since its answer and its memory are; a refusal leaves the memory as it was, and an accepted call its result
+-- there. Assumes nothing.
+use mathlib.Core.Path.{_≡_, refl, ap, _∙_, sym}
 use Prim.Native.Nat.{ℕ}
 use Rattle.paper.specs.Outcome.{Outcome, accepted, refused, mapped}
 use Rattle.paper.specs.Memory.{left, Fulfils, Decided, Spared}
+use Rattle.paper.proofs.Scan.{never}
 
 module _ {R S A M : Type 0} (reading : R → S) (shows : Outcome A → S) (put : A → M → M) (due : Outcome A) (m : M) where
   pub decided : ((r s : R) → reading r ≡ reading s → r ≡ s) → Decided (λ r m′. Fulfils reading shows put due r m m′)
@@ -39,3 +41,14 @@ module _ {R Q A B M : Type 0} (reading : R → Outcome B) (shown : A → B) (put
   pub carried : (a : R) (r : Q) (m m′ : M) → r ≡ g (reading a) → Fulfils reading (mapped shown) put due a m m′
       → Fulfils (λ (q : Q). q) (λ o. g (mapped shown o)) put due r m m′
   carried a r m m′ e f = record { answer = e ∙ ap g (f .answer); memory = f .memory }
+
+-- ---- what an accepted answer tells: the outcome's result, and that it stands in the memory
+shown-accepted : {A B : Type 0} (shown : A → B) (o : Outcome A) (b : B) → mapped shown o ≡ accepted b → (a : A) × ((o ≡ accepted a) × (shown a ≡ b))
+shown-accepted shown (accepted a) b h = let same : shown a ≡ b = cc in (a, (refl, same))
+shown-accepted shown (refused number place) b h = never b number place h
+
+module _ {R A B M : Type 0} (reading : R → Outcome B) (shown : A → B) (put : A → M → M) (due : Outcome A) (r : R) (m m′ : M) where
+  pub gave : (b : B) → Fulfils reading (mapped shown) put due r m m′ → reading r ≡ accepted b → (a : A) × ((due ≡ accepted a) × ((shown a ≡ b) × (m′ ≡ put a m)))
+  gave b f e =
+      let given = shown-accepted shown due b (sym (f .answer) ∙ e) in
+      (given .0, (given .1 .0, (given .1 .1, f .memory ∙ ap (λ (o : Outcome A). left put o m) (given .1 .0))))

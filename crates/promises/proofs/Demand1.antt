@@ -1,49 +1,105 @@
--- Demand 1: each call fulfils its outcome, so that its answer and its memory are decided and a refusal leaves the memory as it was.
--- Assumes nothing.
-use mathlib.Core.List.{List}
-use Prim.Native.Nat.{ℕ}
+-- Demand 1: each call's answer is one, its memory is what its outcome leaves, and its refusals are those of its tests. Assumes nothing.
+use mathlib.Core.Path.{_≡_, refl, _∙_, sym, ap}
+use mathlib.Core.Bool.{not}
+use mathlib.Core.List.{List, [], _∷_}
+use Prim.Native.Nat.{ℕ, _^_, _≤_}
+use native.Mathlib.Omega.{arith}
+use lib.Dec.{leb, ltb}
 use lib.ListN.{length}
-use Rattle.paper.specs.Outcome.{Outcome, mapped}
-use Rattle.paper.specs.Memory.{written, Fulfils}
-use Rattle.paper.specs.Readings.{valueOf, passOf}
-use Rattle.paper.proofs.Memory.{decided, spared}
-use Rattle.leaves.specs.Leaves.{front}
-use Rattle.format.specs.Reading.{Grid}
+use Rattle.paper.specs.Outcome.{Outcome}
+use Rattle.paper.specs.Memory.{written}
+use Rattle.paper.specs.Readings.{valueOf, truthOf, passOf}
+use Rattle.paper.proofs.Faults.{finds-one}
+use Rattle.leaves.specs.Leaves.{Columns, front}
+use Rattle.columns.specs.Laying.{Laid, stretch, stored}
+use Rattle.marks.specs.Marks.{checkMarks}
+use Rattle.numbers.specs.Answers.{foundOf}
+use Rattle.format.specs.Reading.{Grid, sound}
+use Rattle.sounding.specs.Answers.{headOf}
+use Rattle.sounding.proofs.Answers.{tells-one}
 use Rattle.reader.specs.Answers.{gridOf}
 use Rattle.reader.specs.Calls.{sizeOf}
-use Rattle.promises.specs.Demand1.{Kept, OfCalls}
-use Rattle.promises.specs.Demand2.{Determined}
-use Rattle.promises.proofs.Demand2.{of-elements}
-use Rattle.promises.proofs.Numbered.{on-lists, on-points, order-said, printed-said}
-use Rattle.promises.proofs.Faults.{on-lines, on-triangles, on-prisms}
+use Rattle.corners.specs.declared.Root.{Root}
+use Rattle.corners.specs.CornerPoints.{rootWithin, cornerPoint, pointOf}
+use Rattle.fields.specs.Fields.{isNumber}
+use Rattle.forms.specs.Forms.{formOf}
+use Rattle.forms.proofs.Refusals.{read-refused}
+use Rattle.text.specs.Text.{longestOutput}
+use Rattle.orders.specs.Calls.{output}
+use Rattle.orders.proofs.Promised.{promised}
+use Rattle.fields.specs.Inner as fields
+use Rattle.forms.specs.Forms as forms
+use Rattle.promises.specs.Refusals.{Refuses}
+use Rattle.promises.specs.Demand1.{OnLists, OnParts, OfCalls}
+use Rattle.promises.proofs.Refusals.{when, fine, room-so, at0, at1, at2, at3}
+use Rattle.promises.proofs.Calls.{answer, lent}
+use Rattle.promises.proofs.Determined.{numbers, truths, passes, grids, found-numbers, points, heads, forms-read}
+use Rattle.promises.proofs.ShapeCalls.{on-lines, on-triangles, on-prisms}
+use Rattle.promises.proofs.ListCalls.{check-so, balanced-so, uniform-so, check-marks-so, adapt-so, shares-so}
+use Rattle.promises.proofs.FileCalls.{front-so, number-so, sound-so, read-so, write-so}
 
-module _ {R A B M : Type 0} (reading : R → Outcome B) (shown : A → B) (put : A → M → M) (determined : Determined reading) where
-  kept : (due : Outcome A) (m : M) → Kept reading m (λ r m′. Fulfils reading (mapped shown) put due r m m′)
-  kept due m = (decided reading (mapped shown) put due m determined, spared reading shown put due m)
+on-lists : OnLists
+on-lists =
+    record {
+      check = λ k cs. answer passOf passes (check-so k cs);
+      uniform = λ k level m. lent valueOf numbers length front (uniform-so k level m);
+      balanced = λ k cs. answer truthOf truths (balanced-so k cs);
+      adapt = λ k cs ms m. lent valueOf numbers length front (adapt-so k cs ms m);
+      shares = λ k p cs ws m. lent passOf passes (λ (boundaries : List ℕ). tt) written (shares-so k p cs ws m);
+      write = λ k cs m. lent valueOf numbers length written (write-so k cs m);
+      read = λ bytes m. lent gridOf grids sizeOf (λ (g : Grid). front (g .leaves)) (read-so bytes m);
+    }
+
+-- ---- the calls that those are made of
+stretch-one : (root level position : ℕ) (m : Columns) (a b : ℕ) → a ≡ b → (i : ℕ) → stored i (stretch root level position a) m ≡ stored i (stretch root level position b) m
+stretch-one root level position m a b same i = ap (λ (k : ℕ). stored i (stretch root level position k) m) same
+
+on-parts : OnParts
+on-parts =
+    record {
+      marks = λ highest ls ms.
+          record {
+            one = λ r s m m′ f g. (finds-one r s (checkMarks highest ls ms) f g, refl);
+            spared = λ r m number place f h. refl;
+            refusals = check-marks-so highest ls ms;
+          };
+      number = λ bytes i. answer foundOf found-numbers (number-so bytes i);
+      front = λ bytes. answer headOf heads (front-so bytes);
+      sound = λ bytes h.
+          record {
+            one = λ r s m m′ f g. (tells-one r s (sound 8 21 bytes h) f g, refl);
+            spared = λ r m number place f h. refl;
+            refusals = sound-so bytes h;
+          };
+      stretch = λ at k root level position m r s a b f g.
+          let same = f .answer ∙ sym (g .answer) in
+          (same, f .memory ∙ stretch-one root level position m r s same at ∙ sym (g .memory));
+      field = λ f. answer valueOf numbers (when (not (isNumber f)) 23 at0 (λ is. fine _));
+      printed = λ bytes m r s a b f g. (f .end ∙ sym (g .end), f .written ∙ sym (g .written));
+    }
+
+points-so : (l p i : ℕ) (r : Root) → Refuses (1 ∷ 5 ∷ 8 ∷ 24 ∷ []) 0 (cornerPoint l p i r)
+unfolding cornerPoint
+points-so l p i r =
+    when (ltb 21 l) 1 at0 (λ shallow. when (leb (8 ^ l) p) 5 at1 (λ inside. when (leb 6 i) 8 at2 (λ few. when (not (rootWithin r)) 24 at3 (λ near. fine _))))
+
+forms-so : (input : List ℕ) → Refuses (1 ∷ 15 ∷ 17 ∷ 23 ∷ []) 8 (forms.read input)
+forms-so input =
+    record {
+      number = λ number field e. read-refused input number field e .0;
+      place = λ number field e. read-refused input number field e .1 .1;
+    }
 
 pub of-calls : OfCalls
 of-calls =
     record {
-      answers = of-elements .determined;
       on-lines = on-lines;
       on-triangles = on-triangles;
       on-prisms = on-prisms;
       on-lists = on-lists;
-      on-orders = λ input room. (order-said input, printed-said input room);
-      on-points = on-points;
-      uniform = λ k level m. kept valueOf length front numbers _ m;
-      adapt = λ k cs ms m. kept valueOf length front numbers _ m;
-      shares = λ k p cs ws m. kept passOf (λ (boundaries : List ℕ). tt) written passes _ m;
-      write = λ k cs m. kept valueOf length written numbers _ m;
-      read = λ bytes m. kept gridOf sizeOf (λ (g : Grid). front (g .leaves)) grids _ m;
-      answer = λ input m. kept valueOf length written numbers _ m;
+      on-points = λ l p i r. answer pointOf points (points-so l p i r);
+      on-orders = λ input m. lent valueOf numbers length written (room-so (length (output input)) (length m) (output input) at0 (promised .room input));
+      on-forms = λ input. answer formOf forms-read (forms-so input);
+      field-from-1 = λ input number field e. read-refused input number field e .1 .0;
+      on-parts = on-parts;
     }
-  where
-    numbers : Determined valueOf
-    numbers = of-elements .determined .numbers
-
-    passes : Determined passOf
-    passes = of-elements .determined .passes
-
-    grids : Determined gridOf
-    grids = of-elements .determined .grids

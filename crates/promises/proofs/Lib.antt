@@ -1,6 +1,13 @@
-pub mod Numbered
-pub mod Faults
+pub mod Refusals
+pub mod Calls
+pub mod Determined
+pub mod ElementCalls
+pub mod ShapeCalls
+pub mod ListCalls
+pub mod FileCalls
+pub mod Flat
 pub mod Demand1
+pub mod OverC
 pub mod Demand2
-pub mod Starred
 pub mod Demand3
+pub mod Starred

@@ -1,83 +1,124 @@
 -- The order's first demand: "Every element, list, file or order handed in gets either its one result or one numbered refusal. A refused call
 -- writes nothing into the columns or buffers we lent, and it never depends on our having checked first." Definitions only.
 --
--- That it never depends on a check before is that no contract has a condition. The rest, of a call that lends memory, is said of its contract,
--- which speaks of its answer and of what stands in the memory afterwards (`Decided`, `Spared` of `paper/specs/Memory.antt`):
+-- That it never depends on a check before is that no public function has a `requires`; `.ci/run` looks for one. The rest is said here of every call
+-- that answers a refusal or is lent memory to write into, by its contract. Every other public function has a contract `r ≡ ..`, with nothing
+-- of r on the right, so that two of its results are equal. The same over C is `OverC.antt`.
 --
---   Kept f m C       two runs with the contract C have the same answer and leave the same memory; where the answer's reading f is a refusal,
---                    the memory is m, what it was
---   Numbered o       a refusal has one of the numbers 1 to 24
---   OnElements S     every call on the elements of a shape is so
---   OnLists          and every call on lists and files; on-points and on-orders say it of corner points and orders
---   OfCalls          demand 1, of every call that lends memory; the others answer only, and an answer is known by its reading (`Answers`)
+--   Call f ns most o m C   a call with the outcome o and the contract C that finds the memory m: two runs have the same answer and leave the same
+--                          memory; where the answer's reading f is a refusal, the memory is what it was; and a refusal has one of the numbers
+--                          ns, and a place up to `most`
+--   Answer f ns most o     the same for a call that is lent nothing to write into: its contract is that its answer's reading is o
+--   Any e                  any element
+--   OnElements S f H fs    the calls on the elements of a shape: whatever is handed in has the property H, and fs are the numbers of the checks
+--                          on an element
+--   filed                  no offset in a sound part of a file is larger: four bytes, K, R, and at most 1,048,576 runs of two numbers of three bytes
+--   OnLists                the calls on lists and files
+--   OnParts                the calls that those are made of
+--   OfCalls                demand 1
 --
 -- Assumes nothing.
 use mathlib.Core.Path.{_≡_}
 use mathlib.Core.Bool.{Bool}
-use mathlib.Core.List.{List}
-use Prim.Native.Nat.{ℕ, _≤_}
+use mathlib.Core.List.{List, [], _∷_, List·Memᴰ}
+use Prim.Native.Nat.{ℕ, _+_, _*_, _≤_}
+use lib.ListN.{length}
 use Rattle.paper.specs.Outcome.{Outcome, refused}
 use Rattle.paper.specs.Memory.{Decided, Spared}
-use Rattle.paper.specs.Readings.{valueOf, passOf}
+use Rattle.paper.specs.Readings.{valueOf, truthOf, comparisonOf, passOf, checksOf, Finds}
 use Rattle.tree.specs.Anchors.{HIGHEST}
 use Rattle.tree.specs.Shape.{Shape}
-use Rattle.line.specs.Elements.{line}
-use Rattle.triangle.specs.Elements.{triangle}
-use Rattle.prism.specs.Elements.{prism}
+use Rattle.line.specs.Elements.{line, lineOf}
+use Rattle.triangle.specs.Elements.{triangle, triangleOf}
+use Rattle.prism.specs.Elements.{prism, prismOf}
 use Rattle.leaves.specs.Leaves.{CHILDREN, Columns}
-use Rattle.leaves.specs.Calls.{checkList, uniform, Started}
+use Rattle.leaves.specs.Calls.{limit, checkList, uniform, Started}
+use Rattle.columns.specs.Laying.{Laid}
+use Rattle.marks.specs.Marks.{checkMarks}
 use Rattle.adaption.specs.Calls.{adapt, Adapted}
 use Rattle.shares.specs.Calls.{shares, Shared}
 use Rattle.balance.specs.Balance.{balanced}
+use Rattle.numbers.specs.Numbers.{numberAt}
+use Rattle.numbers.specs.Answers.{foundOf}
+use Rattle.format.specs.Reading.{Head, headAt, sound}
 use Rattle.writer.specs.Calls.{write, FileWritten}
+use Rattle.sounding.specs.Answers.{headOf, Tells}
+use Rattle.sounding.specs.declared.Sounding.{Sounding}
 use Rattle.reader.specs.Answers.{gridOf}
 use Rattle.reader.specs.Calls.{read, FileRead}
 use Rattle.corners.specs.declared.Root.{Root}
-use Rattle.corners.specs.CornerPoints.{cornerPoint}
+use Rattle.corners.specs.CornerPoints.{cornerPoint, pointOf}
+use Rattle.forms.specs.Forms.{formOf}
+use Rattle.text.specs.Text.{longestOutput}
+use Rattle.text.specs.Inner.{Put}
 use Rattle.orders.specs.Calls.{answer, Answered}
 use Rattle.tree.specs.Calls as calls
+use Rattle.fields.specs.Inner as fields
 use Rattle.forms.specs.Forms as forms
-use Rattle.promises.specs.Demand2.{Answers}
+use Rattle.promises.specs.Refusals.{Refuses}
 
-abbrev pub Kept : {R B M : Type 0} → (R → Outcome B) → M → (R → M → Type 0) → Type 0
-Kept reading m C = Decided C × Spared reading m C
+pub record Call {R A B M : Type 0} (reading : R → Outcome B) (numbers : List ℕ) (most : ℕ) (due : Outcome A) (m : M) (C : R → M → Type 0) : Type 0 where
+  pub one : Decided C
+  pub spared : Spared reading m C
+  pub refusals : Refuses numbers most due
 
--- ---- the refusals
-pub record Numbered {A : Type 0} (o : Outcome A) : Type 0 where
-  pub said : (number place : ℕ) → o ≡ refused number place → (1 ≤ number) × (number ≤ 24)
+abbrev pub Answer : {R A : Type 0} → (R → Outcome A) → List ℕ → ℕ → Outcome A → Type 0
+Answer {R} reading numbers most due = Call {M = Unit {0}} reading numbers most due tt (λ (r : R) (m′ : Unit {0}). reading r ≡ due)
 
-pub record OnElements {E : Type 0} (S : Shape E) : Type 0 where
-  pub at : (l p : ℕ) → Numbered (calls.at S l p)
-  pub position : (e : E) → Numbered (calls.position S e)
-  pub parent : (e : E) → Numbered (calls.parent S e)
-  pub child : (e : E) (i : ℕ) → Numbered (calls.child S e i)
-  pub successor : (e : E) → Numbered (calls.successor S e)
-  pub first : (e : E) (l : ℕ) → Numbered (calls.first S e l)
-  pub last : (e : E) (l : ℕ) → Numbered (calls.last S e l)
-  pub neighbour : (e : E) (i : ℕ) → Numbered (calls.neighbour S e i)
-  pub family : (equal : Bool) (es : List E) → Numbered (calls.family S equal es)
-  pub order : (e f : E) → Numbered (calls.order S e f)
+-- ---- elements
+abbrev pub Any : {E : Type 0} → E → Type 0
+Any e = Unit {0}
+
+pub record OnElements {E R : Type 0} (S : Shape E) (elementOf : R → Outcome E) (Handed : E → Type 0) (faults : List ℕ) : Type 0 where
+  pub at : (l p : ℕ) → Answer elementOf (1 ∷ 5 ∷ []) 0 (calls.at S l p)
+  pub position : (e : E) → Handed e → Answer valueOf faults 0 (calls.position S e)
+  pub parent : (e : E) → Handed e → Answer elementOf (6 ∷ faults) 0 (calls.parent S e)
+  pub child : (e : E) (i : ℕ) → Handed e → Answer elementOf (7 ∷ 8 ∷ faults) 0 (calls.child S e i)
+  pub successor : (e : E) → Handed e → Answer elementOf (9 ∷ faults) 0 (calls.successor S e)
+  pub first : (e : E) (l : ℕ) → Handed e → Answer elementOf (1 ∷ 6 ∷ faults) 0 (calls.first S e l)
+  pub last : (e : E) (l : ℕ) → Handed e → Answer elementOf (1 ∷ 6 ∷ faults) 0 (calls.last S e l)
+  pub neighbour : (e : E) (i : ℕ) → Handed e → Answer elementOf (8 ∷ 10 ∷ faults) 0 (calls.neighbour S e i)
+  pub family : (equal : Bool) (es : List E) → ((e : E) → List·Memᴰ e es → Handed e)
+      → Answer truthOf (11 ∷ faults) (length es) (calls.family S equal es)
+  pub order : (e f : E) → Handed e → Handed f → Answer comparisonOf faults 1 (calls.order S e f)
+
+-- ---- lists and files
+abbrev pub filed : ℕ
+filed = 10 + 6 * limit
 
 pub record OnLists : Type 0 where
-  pub check : (K : ℕ) (cs : Columns) → Numbered (checkList CHILDREN HIGHEST K cs)
-  pub uniform : (K l : ℕ) (m : Columns) → Numbered (uniform CHILDREN HIGHEST K l m)
-  pub balanced : (K : ℕ) (cs : Columns) → Numbered (balanced CHILDREN HIGHEST K cs)
-  pub adapt : (K : ℕ) (cs : Columns) (ms : List ℕ) (m : Columns) → Numbered (adapt CHILDREN HIGHEST K cs ms m)
-  pub shares : (K P : ℕ) (cs : Columns) (ws m : List ℕ) → Numbered (shares CHILDREN HIGHEST K P cs ws m)
-  pub write : (K : ℕ) (cs : Columns) (m : List ℕ) → Numbered (write CHILDREN HIGHEST K cs m)
-  pub read : (bytes : List ℕ) (m : Columns) → Numbered (read CHILDREN HIGHEST bytes m)
+  pub check : (k : ℕ) (cs : Columns) → Answer passOf (17 ∷ 11 ∷ 1 ∷ 5 ∷ 12 ∷ []) limit (checkList CHILDREN HIGHEST k cs)
+  pub uniform : (k level : ℕ) (m : Columns)
+      → Call valueOf (17 ∷ 11 ∷ 1 ∷ 15 ∷ 14 ∷ []) limit (uniform CHILDREN HIGHEST k level m) m (λ r m′. Started k level r m m′)
+  pub balanced : (k : ℕ) (cs : Columns) → Answer truthOf (17 ∷ 11 ∷ 1 ∷ 5 ∷ 12 ∷ []) limit (balanced CHILDREN HIGHEST k cs)
+  pub adapt : (k : ℕ) (cs : Columns) (ms : List ℕ) (m : Columns)
+      → Call valueOf (17 ∷ 11 ∷ 1 ∷ 5 ∷ 12 ∷ 13 ∷ 7 ∷ 15 ∷ 14 ∷ []) limit (adapt CHILDREN HIGHEST k cs ms m) m (λ r m′. Adapted k r cs ms m m′)
+  pub shares : (k p : ℕ) (cs : Columns) (ws m : List ℕ)
+      → Call passOf (17 ∷ 11 ∷ 1 ∷ 5 ∷ 12 ∷ 16 ∷ 14 ∷ []) limit (shares CHILDREN HIGHEST k p cs ws m) m (λ r m′. Shared k p r cs ws m m′)
+  pub write : (k : ℕ) (cs : Columns) (m : List ℕ)
+      → Call valueOf (17 ∷ 11 ∷ 1 ∷ 5 ∷ 12 ∷ 14 ∷ []) filed (write CHILDREN HIGHEST k cs m) m (λ r m′. FileWritten k r cs m m′)
+  pub read : (bytes : List ℕ) (m : Columns)
+      → Call gridOf (11 ∷ 18 ∷ 19 ∷ 20 ∷ 17 ∷ 21 ∷ 1 ∷ 15 ∷ 12 ∷ 22 ∷ 14 ∷ []) filed (read CHILDREN HIGHEST bytes m) m (λ r m′. FileRead bytes r m m′)
+
+pub record OnParts : Type 0 where
+  pub marks : (highest : ℕ) (ls ms : List ℕ)
+      → Call {M = Unit {0}} checksOf (11 ∷ 13 ∷ 7 ∷ []) (length ms) (checkMarks highest ls ms) tt (λ r m′. Finds r (checkMarks highest ls ms))
+  pub number : (bytes : List ℕ) (i : ℕ) → Answer foundOf (19 ∷ 20 ∷ []) i (numberAt bytes i)
+  pub front : (bytes : List ℕ) → Answer headOf (18 ∷ 19 ∷ 20 ∷ 17 ∷ 21 ∷ []) 6 (headAt bytes)
+  pub sound : (bytes : List ℕ) (h : Head)
+      → Call {M = Unit {0}} (λ (r : Sounding). checksOf (r .fault)) (19 ∷ 20 ∷ 1 ∷ 21 ∷ 15 ∷ 12 ∷ 22 ∷ []) (h .next + 6 * h .runs) (sound CHILDREN HIGHEST bytes h .fault) tt
+      (λ r m′. Tells r (sound CHILDREN HIGHEST bytes h))
+  pub stretch : (at k root level position : ℕ) (m : Columns) → Decided (λ count m′. Laid at k root level position count m m′)
+  pub field : (f : List ℕ) → Answer valueOf (23 ∷ []) 0 (fields.number f)
+  pub printed : (bytes m : List ℕ) → Decided (λ end m′. Put bytes 0 m m′ end)
 
 pub record OfCalls : Type 0 where
-  pub answers : Answers
-  pub on-lines : OnElements line
-  pub on-triangles : OnElements triangle
-  pub on-prisms : OnElements prism
+  pub on-lines : OnElements line lineOf Any (1 ∷ 2 ∷ [])
+  pub on-triangles : OnElements triangle triangleOf Any (1 ∷ 2 ∷ 3 ∷ 4 ∷ [])
+  pub on-prisms : OnElements prism prismOf Any (1 ∷ 2 ∷ 3 ∷ 4 ∷ [])
   pub on-lists : OnLists
-  pub on-orders : (input : List ℕ) (room : ℕ) → Numbered (forms.read input) × Numbered (answer input room)
-  pub on-points : (l p i : ℕ) (r : Root) → Numbered (cornerPoint l p i r)
-  pub uniform : (k level : ℕ) (m : Columns) → Kept valueOf m (λ r m′. Started k level r m m′)
-  pub adapt : (k : ℕ) (cs : Columns) (ms : List ℕ) (m : Columns) → Kept valueOf m (λ r m′. Adapted k r cs ms m m′)
-  pub shares : (k p : ℕ) (cs : Columns) (ws m : List ℕ) → Kept passOf m (λ r m′. Shared k p r cs ws m m′)
-  pub write : (k : ℕ) (cs : Columns) (m : List ℕ) → Kept valueOf m (λ r m′. FileWritten k r cs m m′)
-  pub read : (bytes : List ℕ) (m : Columns) → Kept gridOf m (λ r m′. FileRead bytes r m m′)
-  pub answer : (input m : List ℕ) → Kept valueOf m (λ r m′. Answered r input m m′)
+  pub on-points : (l p i : ℕ) (r : Root) → Answer pointOf (1 ∷ 5 ∷ 8 ∷ 24 ∷ []) 0 (cornerPoint l p i r)
+  pub on-orders : (input m : List ℕ) → Call valueOf (14 ∷ []) longestOutput (answer input (length m)) m (λ r m′. Answered r input m m′)
+  pub on-forms : (input : List ℕ) → Answer formOf (1 ∷ 15 ∷ 17 ∷ 23 ∷ []) 8 (forms.read input)
+  pub field-from-1 : (input : List ℕ) (number field : ℕ) → forms.read input ≡ refused number field → 1 ≤ field
+  pub on-parts : OnParts

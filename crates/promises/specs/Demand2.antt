@@ -2,93 +2,125 @@
 -- element's position is its rank among all elements of its level in that order, and each position below eight to the power of the level gives
 -- back its element." Definitions only.
 --
---   Elements      what is promised of one shape, with its index and its faces
---   Determined f  two answers with the same reading are the same answer
---   OfElements    demand 2, of the elements of all three shapes
---   Answers       of every enum that a public call answers; and at most one Fault finds an outcome
---   OfLists       demand 2, of leaf lists: the list check is exact, each smallest cell lies in one leaf, a leaf's relatives are the
---                 prism's, adaption is the paper's one pass, boundaries are the paper's, balanced is the paper's
---   OfOrders      of the order program: the first 71 bytes decide, its shares are the list's own, its output has room
---   OfFiles       demand 2, of grid files: "a list has one file and a file one list", and writing and reading undo each other
---   OfPoints      demand 2, of corner points: the exact value and no other, the bound, the root's own corners, one point for one local corner
+--   Figure        the corner points of a shape's elements: by number, as the paper lists them, those of a face by number, all faces, and which number
+--                 a face has for the neighbour
+--   Elements      what is promised of one shape, with its answers, its index and its corner points
+--   OfElements    of the elements of all three shapes
+--   OfLists       of leaf lists: the list check is exact, and so is what any list call accepts; each smallest cell lies in one leaf; a leaf's
+--                 relatives are the prism's; adaption is the paper's one pass, boundaries are the paper's, balanced is the paper's
+--   OfFiles       of grid files: "a list has one file and a file one list", and writing and reading undo each other
+--   Demand2       all of it, with corner points (the exact value and no other, the bound, the root's own corners, one point for one local corner)
+--                 and orders (the first 71 bytes decide, its shares are the list's own, its numbers read back, its output has room)
 --
 -- Assumes nothing.
-use mathlib.Core.Path.{_≡_}
-use mathlib.Core.List.{List}
+use mathlib.Core.Bool.{Bool}
+use mathlib.Core.List.{List, []}
 use Prim.Native.Nat.{ℕ}
 use Rattle.paper.specs.Outcome.{Outcome}
-use Rattle.paper.specs.declared.Fault.{Fault}
-use Rattle.paper.specs.Readings.{valueOf, truthOf, comparisonOf, passOf, Finds}
 use Rattle.tree.specs.Anchors.{HIGHEST}
 use Rattle.tree.specs.Shape.{Shape}
+use Rattle.tree.specs.Laws.{Sound, Lawful, Positions, TotalOrder, Families, Faces, Constants}
 use Rattle.tree.specs.Ancestors.{Ancestors}
-use Rattle.tree.specs.Laws.{Lawful, RoundTrips, Positions, TotalOrder, Families, Faces}
+use Rattle.tree.specs.Descendants.{Descendants, CurveOrder}
+use Rattle.tree.specs.CallLaws.{ByPosition, Answered}
+use Rattle.line.specs.declared.Line.{Line}
+use Rattle.line.specs.Elements.{line, lineOf}
+use Rattle.triangle.specs.declared.Triangle.{Triangle}
+use Rattle.triangle.specs.Elements.{triangle, triangleOf}
+use Rattle.triangle.specs.Points.{Point}
+use Rattle.prism.specs.declared.Prism.{Prism}
+use Rattle.prism.specs.Elements.{prism, prismOf}
+use Rattle.prism.specs.Points.{Corner, Definition27}
 use Rattle.index.specs.Bey.{Bey}
 use Rattle.index.specs.Index.{lineIndex, triangleIndex, prismIndex}
 use Rattle.index.specs.Rank.{Ranked}
-use Rattle.leaves.specs.Leaves.{CHILDREN}
+use Rattle.leaves.specs.Leaves.{CHILDREN, Leaf}
+use Rattle.leaves.specs.Laws.{ListCall}
 use Rattle.leaves.specs.Cells.{CellLaws}
+use Rattle.adaption.specs.Laws.{Relatives}
 use Rattle.balance.specs.Balance.{ExactBalance}
-use Rattle.numbers.specs.Answers.{foundOf}
 use Rattle.numbers.specs.Laws.{Codec}
 use Rattle.format.specs.Laws.{OneFile}
-use Rattle.reader.specs.Answers.{gridOf}
 use Rattle.gridfile.specs.Laws.{RoundTrip, InMemory}
-use Rattle.sounding.specs.Answers.{headOf}
-use Rattle.forms.specs.Forms.{formOf}
-use Rattle.corners.specs.CornerPoints.{pointOf}
+use Rattle.line.specs.Points as line-points
+use Rattle.triangle.specs.Points as triangle-points
+use Rattle.prism.specs.Points as prism-points
 use Rattle.leaves.specs.Laws as leaves
 use Rattle.adaption.specs.Laws as adaption
 use Rattle.shares.specs.Laws as shares
 use Rattle.corners.specs.Laws as corners
 use Rattle.orders.specs.Laws as orders
-use Rattle.line.specs.Elements as lines
-use Rattle.triangle.specs.Elements as triangles
-use Rattle.prism.specs.Elements as prisms
-use Rattle.line.specs.Points as line-points
-use Rattle.triangle.specs.Points as triangle-points
-use Rattle.prism.specs.Points as prism-points
+use Rattle.promises.specs.Demand1.{OnElements}
 
-pub record Elements {E P : Type 0} (S : Shape E) (index : E → ℕ) (points : E → ℕ → List P) (faceAcross : ℕ → ℕ) : Type 0 where
+pub record Figure (E P : Type 0) : Type 0 where
+  pub corner : E → ℕ → P
+  pub corners : E → List P
+  pub points : E → ℕ → List P
+  pub faces : E → List (List P)
+  pub across : ℕ → ℕ
+
+pub record Elements {E R P : Type 0} (S : Shape E) (elementOf : R → Outcome E) (index : E → ℕ) (F : Figure E P) : Type 0 where
   pub lawful : Lawful S
-  pub round-trips : RoundTrips S
+  pub by-position : ByPosition S
   pub ranked : Ranked S index
+  pub answered : Answered S
+  pub handed-back : OnElements S elementOf (Sound S) []
   pub positions : Positions S
   pub ancestors : Ancestors S
+  pub descendants : Descendants S
   pub total-order : TotalOrder S
+  pub curve-order : CurveOrder S
   pub families : Families S
-  pub faces : Faces S points faceAcross
+  pub constants : Constants S (F .corner) (F .corners) (F .points) (F .faces)
+  pub faces : Faces S (F .points) (F .across)
 
-abbrev pub Determined : {A B : Type 0} → (A → B) → Type 0
-Determined {A} f = (r s : A) → f r ≡ f s → r ≡ s
+abbrev pub lineFigure : Figure Line ℕ
+lineFigure =
+    record {
+      corner = line-points.corner HIGHEST;
+      corners = line-points.corners HIGHEST;
+      points = line-points.facePoints HIGHEST;
+      faces = line-points.faces HIGHEST;
+      across = line-points.faceAcross;
+    }
 
-pub record Answers : Type 0 where
-  pub line-elements : Determined lines.lineOf
-  pub triangle-elements : Determined triangles.triangleOf
-  pub prism-elements : Determined prisms.prismOf
-  pub numbers : Determined valueOf
-  pub truths : Determined truthOf
-  pub comparisons : Determined comparisonOf
-  pub passes : Determined passOf
-  pub grids : Determined gridOf
-  pub numbers-found : Determined foundOf
-  pub points : Determined pointOf
-  pub heads : Determined headOf
-  pub forms : Determined formOf
-  pub faults : (f g : Fault) (o : Outcome (Unit {0})) → Finds f o → Finds g o → f ≡ g
+abbrev pub triangleFigure : Figure Triangle Point
+triangleFigure =
+    record {
+      corner = triangle-points.corner HIGHEST;
+      corners = triangle-points.corners HIGHEST;
+      points = triangle-points.facePoints HIGHEST;
+      faces = triangle-points.faces HIGHEST;
+      across = triangle-points.faceAcross;
+    }
+
+abbrev pub prismFigure : Figure Prism Corner
+prismFigure =
+    record {
+      corner = prism-points.corner HIGHEST;
+      corners = prism-points.corners HIGHEST;
+      points = prism-points.facePoints HIGHEST;
+      faces = prism-points.faces HIGHEST;
+      across = prism-points.faceAcross;
+    }
 
 pub record OfElements : Type 0 where
-  pub of-lines : Elements lines.line lineIndex (line-points.facePoints HIGHEST) line-points.faceAcross
-  pub of-triangles : Elements triangles.triangle (triangleIndex HIGHEST) (triangle-points.facePoints HIGHEST) triangle-points.faceAcross
-  pub of-prisms : Elements prisms.prism (prismIndex HIGHEST) (prism-points.facePoints HIGHEST) prism-points.faceAcross
+  pub of-lines : Elements line lineOf lineIndex lineFigure
+  pub of-triangles : Elements triangle triangleOf (triangleIndex HIGHEST) triangleFigure
+  pub of-prisms : Elements prism prismOf (prismIndex HIGHEST) prismFigure
   pub children-are-bey's : Bey HIGHEST
-  pub faces-by-definition-27 : prism-points.Definition27 HIGHEST
-  pub determined : Answers
+  pub faces-by-definition-27 : Definition27 HIGHEST
+  pub refusal-4-of-triangles : triangle-points.Refusal4 HIGHEST
+  pub refusal-4-of-prisms : prism-points.Refusal4 HIGHEST
 
-pub record OfLists : Type 1 where
+pub record OfLists : Type 0 where
   pub listed : leaves.Promised CHILDREN HIGHEST
-  pub cells : CellLaws prisms.prism
-  pub relatives : adaption.Relatives prisms.prism
+  pub of-check : ListCall CHILDREN HIGHEST (Unit {0})
+  pub of-balanced : ListCall CHILDREN HIGHEST Bool
+  pub of-adapt : ListCall CHILDREN HIGHEST (List Leaf)
+  pub of-shares-and-write : ListCall CHILDREN HIGHEST (List ℕ)
+  pub cells : CellLaws prism
+  pub relatives : Relatives prism
   pub adapted : adaption.Promised CHILDREN HIGHEST
   pub shared : shares.Promised
   pub balanced : ExactBalance
@@ -99,8 +131,9 @@ pub record OfFiles : Type 0 where
   pub round-trip : RoundTrip CHILDREN HIGHEST
   pub in-memory : InMemory
 
-pub record OfPoints : Type 0 where
-  pub promised : corners.Promised
-
-pub record OfOrders : Type 0 where
-  pub promised : orders.Promised
+pub record Demand2 : Type 0 where
+  pub of-elements : OfElements
+  pub of-lists : OfLists
+  pub of-files : OfFiles
+  pub of-points : corners.Promised
+  pub of-orders : orders.Promised

@@ -3,29 +3,51 @@
 -- one machine's share. Shares run along the curve without gaps. The number of machines times a share's weight differs from the whole weight
 -- by strictly less than the number of machines times the heaviest prism's weight." Definitions only.
 --
---   Owner        a smallest cell lies in exactly one listed prism, and that prism in exactly one share
---   Divided      the grid vs of K roots, with the weights ws, among P machines
---   OfGrids      demand 3: of any valid grid, of any grid that an accepted call loads from a file, of any that accepted adaptions reach from
---                a uniform start, and of what any accepted call of shares writes
+--   Begun K vs     where a grid of K roots may begin: an accepted uniform start, or a file that was read
+--   Reached K vs   it begins so, and accepted adaptions lead to vs, one after the other
+--   Owner          a smallest cell lies in exactly one listed prism, and that prism in exactly one share
+--   Divided        the grid vs of K roots, with the weights ws, among P machines: each cell has its owner; the leaves stand along the curve, each
+--                  before all later ones, so that shares do, which run from no leaf to all without gaps; and both bounds, strict (`Fair`)
+--   OfGrids        demand 3: of any valid grid, of any that is reached, and of what any accepted call of shares answers
+--   InMemory       what stands in the lent memory after an accepted call: the first entries are a valid list, which every list call accepts
+--                  (`ListCall` in demand 2), or the boundaries of such a division. The contracts over C leave the same memory by the same
+--                  outcome
 --
 -- Assumes nothing.
 use mathlib.Core.Path.{_≡_}
 use mathlib.Core.List.{List}
-use Prim.Native.Nat.{ℕ, _+_, _*_, _≤_, _<_}
-use lib.ListN.{length}
-use Rattle.paper.specs.Outcome.{accepted}
+use Prim.Native.Nat.{ℕ, _+_, _<_}
+use lib.ListN.{length, take}
+use Rattle.paper.specs.Outcome.{accepted, passed}
+use Rattle.paper.specs.Readings.{valueOf, passOf}
+use Rattle.paper.specs.declared.NumberAnswer.{NumberAnswer}
+use Rattle.paper.specs.declared.PassAnswer.{PassAnswer}
 use Rattle.tree.specs.Anchors.{HIGHEST}
 use Rattle.tree.specs.Laws.{Sound}
 use Rattle.prism.specs.declared.Prism.{Prism}
 use Rattle.prism.specs.Elements.{prism}
-use Rattle.leaves.specs.Leaves.{CHILDREN, Leaf, Columns, leaves, Valid}
-use Rattle.leaves.specs.Cells.{OneLeaf}
-use Rattle.adaption.specs.Laws.{Reached}
-use Rattle.shares.specs.Shares.{total, boundary, boundaries, weight, heaviest}
-use Rattle.shares.specs.Calls.{shares}
-use Rattle.shares.specs.Laws.{OneShare, Weighty}
-use Rattle.format.specs.Reading.{Grid}
-use Rattle.reader.specs.Calls.{read}
+use Rattle.leaves.specs.Leaves.{CHILDREN, Leaf, nth, Columns, leaves, firstEntries, Valid}
+use Rattle.leaves.specs.Calls.{uniform, Started}
+use Rattle.leaves.specs.Laws.{ValidList}
+use Rattle.leaves.specs.Cells.{OneLeaf, Earlier}
+use Rattle.adaption.specs.Calls.{Adapted}
+use Rattle.adaption.specs.Laws.{Steps}
+use Rattle.shares.specs.Shares.{boundaries}
+use Rattle.shares.specs.Calls.{shares, Shared}
+use Rattle.shares.specs.Laws.{OneShare, Fair, Weighty}
+use Rattle.reader.specs.Answers.{size, gridOf}
+use Rattle.reader.specs.Calls.{read, FileRead}
+use Rattle.reader.specs.declared.GridAnswer.{GridAnswer}
+
+pub data Begun (K : ℕ) (vs : List Leaf) : Type 0 where
+  started : (level : ℕ) (lent : Columns) → uniform CHILDREN HIGHEST K level lent ≡ accepted vs → Begun K vs
+  loaded : (bytes : List ℕ) (lent : Columns) → read CHILDREN HIGHEST bytes lent ≡ accepted (record { roots = K; leaves = vs }) → Begun K vs
+
+pub record Reached (K : ℕ) (vs : List Leaf) : Type 0 where
+  pub beginning : List Leaf
+  pub begun : Begun K beginning
+  pub adaptions : ℕ
+  pub steps : Steps CHILDREN HIGHEST K adaptions beginning vs
 
 pub record Owner (P : ℕ) (vs : List Leaf) (ws : List ℕ) (r : ℕ) (cell : Prism) : Type 0 where
   pub listed : OneLeaf prism vs r cell
@@ -33,18 +55,27 @@ pub record Owner (P : ℕ) (vs : List Leaf) (ws : List ℕ) (r : ℕ) (cell : Pr
 
 pub record Divided (K P : ℕ) (vs : List Leaf) (ws : List ℕ) : Type 0 where
   pub owner : (r : ℕ) (cell : Prism) → r < K → Sound prism cell → cell .level ≡ HIGHEST → Owner P vs ws r cell
-  pub from-none : boundary P ws 0 ≡ 0
-  pub rising : (s : ℕ) → boundary P ws s ≤ boundary P ws (s + 1)
-  pub to-all : boundary P ws P ≡ length vs
-  pub not-far-above : (s : ℕ) → s < P → P * weight P ws s < total ws + P * heaviest ws
-  pub not-far-below : (s : ℕ) → s < P → total ws < P * weight P ws s + P * heaviest ws
+  pub along : (i j : ℕ) → i < j → j < length vs → Earlier prism (nth vs i) (nth vs j)
+  pub weighed : length ws ≡ length vs
+  pub fair : Fair P ws
 
 pub record OfGrids : Type 0 where
   pub of-valid : (K P : ℕ) (vs : List Leaf) (ws : List ℕ) → 0 < K → Valid CHILDREN HIGHEST K vs → length ws ≡ length vs → Weighty ws → 0 < P
       → Divided K P vs ws
-  pub of-loaded : (bytes : List ℕ) (m : Columns) (g : Grid) (P : ℕ) (ws : List ℕ) → read CHILDREN HIGHEST bytes m ≡ accepted g
-      → length ws ≡ length (g .leaves) → Weighty ws → 0 < P → Divided (g .roots) P (g .leaves) ws
-  pub of-reached : (K s P : ℕ) (vs : List Leaf) (ws : List ℕ) → Reached CHILDREN HIGHEST K s vs → length ws ≡ length vs → Weighty ws → 0 < P
-      → Divided K P vs ws
+  pub of-reached : (K P : ℕ) (vs : List Leaf) (ws : List ℕ) → Reached K vs → length ws ≡ length vs → Weighty ws → 0 < P → Divided K P vs ws
   pub of-accepted : (K P : ℕ) (cs : Columns) (ws column bs : List ℕ) → shares CHILDREN HIGHEST K P cs ws column ≡ accepted bs
       → (bs ≡ boundaries P ws) × Divided K P (leaves cs) ws
+
+pub record InMemory : Type 0 where
+  pub started : (k level N : ℕ) (r : NumberAnswer) (m m′ : Columns) → Started k level r m m′ → valueOf r ≡ accepted N
+      → ValidList CHILDREN HIGHEST k (firstEntries N m′)
+  pub adapted : (k N : ℕ) (r : NumberAnswer) (cs : Columns) (ms : List ℕ) (m m′ : Columns) → Adapted k r cs ms m m′ → valueOf r ≡ accepted N
+      → ValidList CHILDREN HIGHEST k (firstEntries N m′)
+  pub loaded : (bytes : List ℕ) (K N : ℕ) (r : GridAnswer) (m m′ : Columns) → FileRead bytes r m m′ → gridOf r ≡ accepted (size K N)
+      → ValidList CHILDREN HIGHEST K (firstEntries N m′)
+  pub shared : (k p : ℕ) (r : PassAnswer) (cs : Columns) (ws m m′ : List ℕ) → Shared k p r cs ws m m′ → passOf r ≡ passed
+      → (take (p + 1) m′ ≡ boundaries p ws) × Divided k p (leaves cs) ws
+
+pub record Demand3 : Type 0 where
+  pub of-grids : OfGrids
+  pub in-memory : InMemory

@@ -1,1 +1,7 @@
-// No code: what is promised, in specs/, and its proofs, over the definitions and laws of the other crates.
+// The promises: the order's three demands and the paper's starred examples, as the contract of one function.
+ghost use Rattle.promises.specs.Promises.{Promises};
+
+// Does nothing. What it ensures is what is promised, so that the gate fails where a promise is not proved.
+pub fn promised()
+    ensures { λ _. ⌜ Promises ⌝ }
+{}

@@ -1,0 +1,64 @@
+-- What is promised of the results over C, as statements. Definitions only.
+--
+--   Kind R        a kind of result: its word, and the result of a word whose every other field is 0
+--   lines, triangles, prisms, numbers, comparisons, points, grids, words
+--                 the kinds; words: of a call with no value, the word alone
+--   Word o w      w is a word for the outcome o: 0 exactly when it is accepted; a refusal's number and place are read back by % and /
+--   Result k f    f gives the results of kind k: the word is that of the outcome, and on a refusal every other field is 0
+--
+-- Assumes nothing.
+use mathlib.Core.Path.{_≡_}
+use mathlib.Core.Logic.{_↔_}
+use mathlib.Core.Bool.{false}
+use Prim.Native.Nat.{ℕ, _/_, _%_}
+use lib.IntN.{pos}
+use lib.Ieee.{fin}
+use Rattle.paper.specs.Outcome.{Outcome, accepted, refused}
+use Rattle.results.specs.declared.LineResult.{LineResult}
+use Rattle.results.specs.declared.TriangleResult.{TriangleResult}
+use Rattle.results.specs.declared.PrismResult.{PrismResult}
+use Rattle.results.specs.declared.NumberResult.{NumberResult}
+use Rattle.results.specs.declared.CompareResult.{CompareResult}
+use Rattle.results.specs.declared.PointResult.{PointResult}
+use Rattle.results.specs.declared.GridResult.{GridResult}
+use Rattle.results.specs.Results.{word}
+
+pub record Kind (R : Type 0) : Type 0 where
+  pub refusal : R → ℕ
+  pub blank : ℕ → R
+
+abbrev pub lines : Kind LineResult
+lines = record { refusal = λ r. r .refusal; blank = λ w. record { refusal = w; value = record { x = 0; level = 0 } } }
+
+abbrev pub triangles : Kind TriangleResult
+triangles = record { refusal = λ r. r .refusal; blank = λ w. record { refusal = w; value = record { x = 0; y = 0; level = 0; kind = 0 } } }
+
+abbrev pub prisms : Kind PrismResult
+prisms = record { refusal = λ r. r .refusal; blank = λ w. record { refusal = w; value = record { x = 0; y = 0; z = 0; level = 0; kind = 0 } } }
+
+abbrev pub numbers : Kind NumberResult
+numbers = record { refusal = λ r. r .refusal; blank = λ w. record { refusal = w; value = 0 } }
+
+abbrev pub comparisons : Kind CompareResult
+comparisons = record { refusal = λ r. r .refusal; blank = λ w. record { refusal = w; value = pos 0 } }
+
+-- a coordinate 0 is +0
+abbrev pub points : Kind PointResult
+points =
+    let zero = fin false 0 (pos 0) in
+    record { refusal = λ r. r .refusal; blank = λ w. record { refusal = w; value = record { x = zero; y = zero; z = zero } } }
+
+abbrev pub grids : Kind GridResult
+grids = record { refusal = λ r. r .refusal; blank = λ w. record { refusal = w; roots = 0; leaves = 0 } }
+
+abbrev pub words : Kind ℕ
+words = record { refusal = λ r. r; blank = λ w. w }
+
+pub record Word {A : Type 0} (o : Outcome A) (w : ℕ) : Type 0 where
+  pub accepts : w ≡ 0 ↔ ((a : A) × (o ≡ accepted a))
+  pub number : (number place : ℕ) → o ≡ refused number place → w % 256 ≡ number
+  pub place : (number place : ℕ) → o ≡ refused number place → w / 256 ≡ place
+
+pub record Result {A R : Type 0} (kind : Kind R) (result : Outcome A → R) : Type 0 where
+  pub worded : (o : Outcome A) → kind .refusal (result o) ≡ word o
+  pub blanked : (number place : ℕ) → result (refused number place) ≡ kind .blank (word {A = A} (refused number place))
