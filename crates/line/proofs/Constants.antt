@@ -8,7 +8,6 @@ use Rattle.tree.specs.Anchors.{side}
 use Rattle.tree.specs.Laws.{Constants}
 use Rattle.tree.proofs.Anchor.{side-pos}
 use Rattle.tree.proofs.Apart.{once}
-use Rattle.line.specs.declared.Line.{Line}
 use Rattle.line.specs.Elements.{lineTo}
 use Rattle.line.specs.Points.{corner, corners, facePoints, faces}
 

@@ -12,7 +12,7 @@ use Rattle.tree.proofs.Anchor.{side-pos}
 use Rattle.tree.proofs.Apart.{Apart, once}
 use Rattle.triangle.specs.declared.Triangle.{Triangle}
 use Rattle.triangle.specs.Elements.{triangleTo}
-use Rattle.triangle.specs.Points.{Point, point, cornersBy, corner, corners, facePoints, faces}
+use Rattle.triangle.specs.Points.{Point, point, corner, corners, facePoints, faces}
 
 -- x + y
 abbrev pub along : Point → ℕ
