@@ -5,6 +5,5 @@ pub mod Across
 pub mod Around
 pub mod Along
 pub mod Faces
-pub mod Definition27
 pub mod Constants
 pub mod Inside

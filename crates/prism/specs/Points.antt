@@ -5,9 +5,8 @@
 --   corner L e i       corner i of them: the triangle's, by the remainder of 3, at the line's, by the quotient
 --   facePoints L e i   the corner points of face i (the thesis's definition 27): of a side, those of the triangle's face at both
 --                      heights; below and above, the whole triangle
---   faceTable          the corners of each face by number, as the thesis's definition 27 lists them; faceCorners i those of face i
+--   faceTable          the corners of each face by number, as the thesis's definition 27 lists them
 --   faces L e          the faces by that list
---   Definition27 L     the points of a face are those corners
 --   faceAcross i       the number of that face as the neighbour has it
 --   InRoot L c         the point c lies in the root: its ground plan in the root of triangles, and its height at most 2^L
 --   OnGrid L e         e passes the checks 1, 2 and 3: its triangle does, and z is below 2^L and a multiple of the side
@@ -28,7 +27,7 @@ use Rattle.triangle.specs.Points.{Point}
 use Rattle.line.specs.Points as line
 use Rattle.triangle.specs.Points as triangle
 use Rattle.prism.specs.declared.Prism.{Prism}
-use Rattle.prism.specs.Elements.{FACES, CORNERS, prismTo, plan, upright}
+use Rattle.prism.specs.Elements.{CORNERS, prismTo, plan, upright}
 
 pub record Corner : Type 0 where
   pub plan : Point
@@ -65,14 +64,8 @@ faceTable =
     ∷ (3 ∷ 4 ∷ 5 ∷ [])
     ∷ []
 
-abbrev pub faceCorners : ℕ → List ℕ
-faceCorners i = getD faceTable i []
-
 abbrev pub faces : ℕ → Prism → List (List Corner)
 faces L e = map (map (corner L e)) faceTable
-
-abbrev pub Definition27 : ℕ → Type 0
-Definition27 L = (e : Prism) (i : ℕ) → i < FACES → facePoints L e i ≡ map (corner L e) (faceCorners i)
 
 pub record InRoot (L : ℕ) (c : Corner) : Type 0 where
   pub in-plan : triangle.InRoot L (c .plan)

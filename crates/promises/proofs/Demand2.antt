@@ -19,7 +19,6 @@ use Rattle.triangle.specs.Elements.{triangle, triangleOf}
 use Rattle.triangle.proofs.Faces.{triangle-faces}
 use Rattle.prism.specs.Elements.{prism, prismOf}
 use Rattle.prism.proofs.Faces.{prism-faces}
-use Rattle.prism.proofs.Definition27.{definition-27}
 use Rattle.index.specs.Index.{lineIndex, triangleIndex, prismIndex}
 use Rattle.index.specs.Rank.{Ranked}
 use Rattle.index.proofs.Rank.{line-ranked, triangle-ranked, prism-ranked}
@@ -82,7 +81,6 @@ of-elements =
           elements prism prismOf determined.prisms (prismIndex 21) prismFigure
           (prisms.lawful 21) (prism-ranked 21) (prism-constants.constants 21) (prism-faces 21);
       children-are-bey's = bey 21;
-      faces-by-definition-27 = definition-27 21;
       refusal-4-of-triangles = triangle-inside.refusal-4 21;
       refusal-4-of-prisms = prism-inside.refusal-4 21;
     }

@@ -1,43 +1,32 @@
 -- Demand 3: the cells are those of a valid list, the shares are fair, and an accepted call of shares found both. Assumes nothing.
-use mathlib.Core.Path.{_≡_, ap, ap₂, _∙_, sym, subst}
+use mathlib.Core.Path.{_≡_, _∙_, sym, subst}
 use mathlib.Core.Bool.{true, not}
 use mathlib.Core.List.{List}
 use Prim.Native.Nat.{ℕ, _+_, _<_}
 use native.Mathlib.Omega.{arith}
 use lib.Dec.{ltb, eqb}
-use lib.ListN.{length, getD, take, drop}
-use lib.Seq.{take-append-seam}
+use lib.ListN.{length, getD}
 use borrow.Author.Tests.{eqb-true, eqb-false, not-true}
-use Rattle.paper.specs.Outcome.{Outcome, accepted, passed, mapped}
-use Rattle.paper.specs.Memory.{written, Fulfils}
-use Rattle.paper.specs.Readings.{valueOf, passOf}
-use Rattle.paper.specs.declared.NumberAnswer.{NumberAnswer}
-use Rattle.paper.specs.declared.PassAnswer.{PassAnswer}
-use Rattle.paper.proofs.Memory.{gave}
-use Rattle.paper.proofs.Tests.{or-none, no-fault}
+use Rattle.paper.specs.Outcome.{Outcome, accepted}
+use Rattle.paper.proofs.Tests.{no-fault}
 use Rattle.paper.proofs.Scan.{accepted-of, scan-accepted, scan-each}
 use Rattle.prism.specs.Elements.{prismTo, prism}
-use Rattle.leaves.specs.Leaves.{Leaf, Columns, leaves, columnsOf, firstEntries, front, room, Valid}
-use Rattle.leaves.specs.Calls.{outOfRange, uniform, Started}
+use Rattle.leaves.specs.Leaves.{Leaf, Columns, leaves, columnsOf, room, Valid}
+use Rattle.leaves.specs.Calls.{outOfRange}
 use Rattle.leaves.specs.Laws.{ValidList}
 use Rattle.leaves.proofs.Ancestors.{cell-laws}
 use Rattle.leaves.proofs.Entries.{some-leaf, leaves-of-columns}
 use Rattle.leaves.proofs.UniformValid.{uniform-listed}
-use Rattle.leaves.proofs.Listed.{columns-sound, listed-accepted, listed-fits}
-use Rattle.leaves.proofs.Columns.{leaves-length, first-of}
-use Rattle.adaption.specs.Calls.{adapt, Adapted}
+use Rattle.leaves.proofs.Listed.{in-range, columns-sound, listed-accepted, listed-fits}
+use Rattle.leaves.proofs.Columns.{leaves-length}
 use Rattle.shares.specs.Shares.{boundaries}
-use Rattle.shares.specs.Calls.{weightFault, shares, Shared}
+use Rattle.shares.specs.Calls.{weightFault, shares}
 use Rattle.shares.specs.Laws.{Fair, Weighty}
 use Rattle.prism.proofs.Laws as prism-laws
 use Rattle.adaption.proofs.Promised as adaption-laws
 use Rattle.shares.proofs.Promised as shares-laws
-use Rattle.format.specs.Reading.{Grid}
-use Rattle.reader.specs.Answers.{Size, size, gridOf}
-use Rattle.reader.specs.Calls.{read, sizeOf, FileRead}
-use Rattle.reader.specs.declared.GridAnswer.{GridAnswer}
 use Rattle.gridfile.proofs.RoundTrip.{loads-list}
-use Rattle.promises.specs.Demand3.{Begun, started, loaded, Reached, Divided, OfGrids, InMemory, Demand3}
+use Rattle.promises.specs.Demand3.{Begun, started, loaded, Reached, Divided, OfGrids}
 
 of-list : (K P : ℕ) (vs : List Leaf) (ws : List ℕ) → Valid 8 21 K vs → 0 < length vs → length ws ≡ length vs → Weighty ws → 0 < P → Divided K P vs ws
 unfolding prismTo
@@ -56,11 +45,7 @@ of-list K P vs ws valid some long weighty positive = by (shares-laws.promised .f
 
 -- the tests that an accepted call of shares has passed
 shares-some : (P : ℕ) → not (outOfRange P) ≡ true → 0 < P
-shares-some P right =
-    let none = eqb-false P 0 (or-none (eqb P 0) (ltb 4096 P) (not-true (outOfRange P) right) .0) in above none
-  where
-    above : {m : ℕ} → (m ≡ 0 → ⊥) → 0 < m
-    above {m} none = omega arith
+shares-some P right = in-range P (not-true (outOfRange P) right) .0
 
 weight-some : (w : ℕ) → weightFault w ≡ 0 → 0 < w
 weight-some w right = above (eqb-false w 0 (no-fault (eqb w 0) 15 0 right .0))
@@ -68,7 +53,7 @@ weight-some w right = above (eqb-false w 0 (no-fault (eqb w 0) 15 0 right .0))
     above : {m : ℕ} → (m ≡ 0 → ⊥) → 0 < m
     above {m} none = omega arith
 
-of-accepted : (K P : ℕ) (cs : Columns) (ws column bs : List ℕ) → shares 8 21 K P cs ws column ≡ accepted bs
+pub of-accepted : (K P : ℕ) (cs : Columns) (ws column bs : List ℕ) → shares 8 21 K P cs ws column ≡ accepted bs
     → (bs ≡ boundaries P ws) × Divided K P (leaves cs) ws
 of-accepted K P cs ws column bs h =
     let inside = listed-accepted 8 21 K (not (outOfRange P)) (eqb (room cs) (length ws)) cs _ bs h in
@@ -100,50 +85,10 @@ of-reached K P vs ws reached =
     let valid = adaption-laws.promised 8 21 (omega arith) .reached K (reached .adaptions) (reached .beginning) vs (start .1) (reached .steps) in
     of-list K P vs ws valid (some-leaf 8 21 K vs (start .0) valid)
 
-of-grids : OfGrids
+pub of-grids : OfGrids
 of-grids =
     record {
       of-valid = λ K P vs ws some valid. of-list K P vs ws valid (some-leaf 8 21 K vs some valid);
       of-reached = of-reached;
       of-accepted = of-accepted;
     }
-
--- ---- in memory
--- a list that a call gives stands in the first entries
-module _ (k : ℕ) (due : Outcome (List Leaf)) (is-list : (ws : List Leaf) → due ≡ accepted ws → ValidList 8 21 k (columnsOf ws)) where
-  first-list : (N : ℕ) (r : NumberAnswer) (m m′ : Columns) → Fulfils valueOf (mapped length) front due r m m′ → valueOf r ≡ accepted N
-      → ValidList 8 21 k (firstEntries N m′)
-  first-list N r m m′ f e =
-      let a = gave valueOf length front due r m m′ N f e in
-      subst (ValidList 8 21 k) (sym (first-of (a .0) m m′ N (a .1 .1 .1) (a .1 .1 .0))) (is-list (a .0) (a .1 .0))
-
-loaded-list : (bytes : List ℕ) (K N : ℕ) (r : GridAnswer) (m m′ : Columns) → FileRead bytes r m m′ → gridOf r ≡ accepted (size K N)
-    → ValidList 8 21 K (firstEntries N m′)
-loaded-list bytes K N r m m′ f e =
-    let a = gave gridOf sizeOf (λ (g : Grid). front (g .leaves)) (read 8 21 bytes m) r m m′ (size K N) f e in
-    let roots : a .0 .roots ≡ K = ap (λ (s : Size). s .roots) (a .1 .1 .0) in
-    let here = first-of (a .0 .leaves) m m′ N (a .1 .1 .1) (ap (λ (s : Size). s .leaves) (a .1 .1 .0)) in
-    subst (λ (k : ℕ). ValidList 8 21 k (firstEntries N m′)) roots
-    (subst (ValidList 8 21 (a .0 .roots)) (sym here) (loads-list 8 21 (omega arith) (omega arith) bytes m (a .0) (a .1 .0)))
-
-shared-boundaries : (k p : ℕ) (r : PassAnswer) (cs : Columns) (ws m m′ : List ℕ) → Shared k p r cs ws m m′ → passOf r ≡ passed
-    → (take (p + 1) m′ ≡ boundaries p ws) × Divided k p (leaves cs) ws
-shared-boundaries k p r cs ws m m′ f e =
-    let a = gave passOf (λ (boundaries : List ℕ). tt) written (shares 8 21 k p cs ws m) r m m′ tt f e in
-    let both = of-accepted k p cs ws m (a .0) (a .1 .0) in
-    let here : m′ ≡ written (boundaries p ws) m = a .1 .1 .1 ∙ ap (λ (bs : List ℕ). written bs m) (both .0) in
-    let long = shares-laws.promised .many p ws in
-    (ap₂ take (sym long) here ∙ take-append-seam (boundaries p ws) (drop (length (boundaries p ws)) m), both .1)
-
-in-memory : InMemory
-in-memory =
-    record {
-      started = λ k level N r m m′. first-list k (uniform 8 21 k level m) (uniform-listed 8 21 (omega arith) k level m) N r m m′;
-      adapted = λ k N r cs ms m m′.
-          first-list k (adapt 8 21 k cs ms m) (adaption-laws.promised 8 21 (omega arith) .adapted-list k cs ms m) N r m m′;
-      loaded = loaded-list;
-      shared = shared-boundaries;
-    }
-
-pub demand-3 : Demand3
-demand-3 = record { of-grids = of-grids; in-memory = in-memory }

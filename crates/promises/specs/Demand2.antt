@@ -30,7 +30,7 @@ use Rattle.triangle.specs.Elements.{triangle, triangleOf}
 use Rattle.triangle.specs.Points.{Point}
 use Rattle.prism.specs.declared.Prism.{Prism}
 use Rattle.prism.specs.Elements.{prism, prismOf}
-use Rattle.prism.specs.Points.{Corner, Definition27}
+use Rattle.prism.specs.Points.{Corner}
 use Rattle.index.specs.Bey.{Bey}
 use Rattle.index.specs.Index.{lineIndex, triangleIndex, prismIndex}
 use Rattle.index.specs.Rank.{Ranked}
@@ -109,7 +109,6 @@ pub record OfElements : Type 0 where
   pub of-triangles : Elements triangle triangleOf (triangleIndex HIGHEST) triangleFigure
   pub of-prisms : Elements prism prismOf (prismIndex HIGHEST) prismFigure
   pub children-are-bey's : Bey HIGHEST
-  pub faces-by-definition-27 : Definition27 HIGHEST
   pub refusal-4-of-triangles : triangle-points.Refusal4 HIGHEST
   pub refusal-4-of-prisms : prism-points.Refusal4 HIGHEST
 

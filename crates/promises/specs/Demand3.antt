@@ -10,8 +10,9 @@
 --                  before all later ones, so that shares do, which run from no leaf to all without gaps; and both bounds, strict (`Fair`)
 --   OfGrids        demand 3: of any valid grid, of any that is reached, and of what any accepted call of shares answers
 --   InMemory       what stands in the lent memory after an accepted call: the first entries are a valid list, which every list call accepts
---                  (`ListCall` in demand 2), or the boundaries of such a division. The contracts over C leave the same memory by the same
---                  outcome
+--                  (`ListCall` in demand 2), or the boundaries of such a division
+--   InMemoryOverC  the same after a function over C whose word is 0
+--   Demand3        all of it
 --
 -- Assumes nothing.
 use mathlib.Core.Path.{_≡_}
@@ -38,6 +39,9 @@ use Rattle.shares.specs.Laws.{OneShare, Fair, Weighty}
 use Rattle.reader.specs.Answers.{size, gridOf}
 use Rattle.reader.specs.Calls.{read, FileRead}
 use Rattle.reader.specs.declared.GridAnswer.{GridAnswer}
+use Rattle.results.specs.declared.NumberResult.{NumberResult}
+use Rattle.results.specs.declared.GridResult.{GridResult}
+use Rattle.interface.specs.Calls.{UniformResult, AdaptResult, SharesResult, ReadResult}
 
 pub data Begun (K : ℕ) (vs : List Leaf) : Type 0 where
   started : (level : ℕ) (lent : Columns) → uniform CHILDREN HIGHEST K level lent ≡ accepted vs → Begun K vs
@@ -76,6 +80,17 @@ pub record InMemory : Type 0 where
   pub shared : (k p : ℕ) (r : PassAnswer) (cs : Columns) (ws m m′ : List ℕ) → Shared k p r cs ws m m′ → passOf r ≡ passed
       → (take (p + 1) m′ ≡ boundaries p ws) × Divided k p (leaves cs) ws
 
+pub record InMemoryOverC : Type 0 where
+  pub started : (k level : ℕ) (r : NumberResult) (m m′ : Columns) → UniformResult k level r m m′ → r .refusal ≡ 0
+      → ValidList CHILDREN HIGHEST k (firstEntries (r .value) m′)
+  pub adapted : (k : ℕ) (r : NumberResult) (cs : Columns) (ms : List ℕ) (m m′ : Columns) → AdaptResult k r cs ms m m′ → r .refusal ≡ 0
+      → ValidList CHILDREN HIGHEST k (firstEntries (r .value) m′)
+  pub loaded : (bytes : List ℕ) (r : GridResult) (m m′ : Columns) → ReadResult r bytes m m′ → r .refusal ≡ 0
+      → ValidList CHILDREN HIGHEST (r .roots) (firstEntries (r .leaves) m′)
+  pub shared : (k p r : ℕ) (cs : Columns) (ws m m′ : List ℕ) → SharesResult k p r cs ws m m′ → r ≡ 0
+      → (take (p + 1) m′ ≡ boundaries p ws) × Divided k p (leaves cs) ws
+
 pub record Demand3 : Type 0 where
   pub of-grids : OfGrids
   pub in-memory : InMemory
+  pub in-memory-over-c : InMemoryOverC

@@ -2,7 +2,8 @@
 use Rattle.promises.proofs.Demand1.{of-calls}
 use Rattle.promises.proofs.OverC.{over-c}
 use Rattle.promises.proofs.Demand2.{demand-2}
-use Rattle.promises.proofs.Demand3.{demand-3}
+use Rattle.promises.proofs.Demand3.{of-grids}
+use Rattle.promises.proofs.InMemory.{in-memory, in-memory-over-c}
 use Rattle.promises.proofs.Starred.{starred-hold}
 use Rattle.promises.proofs.promised.Statement.{statement}
 use Rattle.promises.proofs.promised.Tie as tie
@@ -12,7 +13,7 @@ returns c =
     record {
       demand-1 = record { of-calls = of-calls; over-c = over-c of-calls };
       demand-2 = demand-2;
-      demand-3 = demand-3;
+      demand-3 = record { of-grids = of-grids; in-memory = in-memory; in-memory-over-c = in-memory-over-c (over-c of-calls .on-lists) };
       starred-examples = starred-hold;
     }
 
