@@ -8,7 +8,7 @@ use lib.Dec.{leb, ltb}
 use lib.ListN.{length}
 use Rattle.paper.specs.Outcome.{Outcome}
 use Rattle.paper.specs.Memory.{written}
-use Rattle.paper.specs.Readings.{valueOf, truthOf, passOf}
+use Rattle.paper.specs.Readings.{valueOf, truthOf, comparisonOf, passOf}
 use Rattle.paper.proofs.Faults.{finds-one}
 use Rattle.leaves.specs.Leaves.{Columns, front}
 use Rattle.columns.specs.Laying.{Laid, stretch, stored}
@@ -33,7 +33,7 @@ use Rattle.promises.specs.Refusals.{Refuses}
 use Rattle.promises.specs.Demand1.{OnLists, OnParts, OfCalls}
 use Rattle.promises.proofs.Refusals.{when, fine, room-so, at0, at1, at2, at3}
 use Rattle.promises.proofs.Calls.{answer, lent}
-use Rattle.promises.proofs.Determined.{numbers, truths, passes, grids, found-numbers, points, heads, forms-read}
+use Rattle.promises.proofs.Determined.{numbers, truths, comparisons, passes, grids, found-numbers, points, heads, forms-read}
 use Rattle.promises.proofs.ShapeCalls.{on-lines, on-triangles, on-prisms}
 use Rattle.promises.proofs.ListCalls.{check-so, balanced-so, uniform-so, check-marks-so, adapt-so, shares-so}
 use Rattle.promises.proofs.FileCalls.{front-so, number-so, sound-so, read-so, write-so}
@@ -57,6 +57,7 @@ stretch-one root level position m a b same i = ap (λ (k : ℕ). stored i (stret
 on-parts : OnParts
 on-parts =
     record {
+      order = λ first level second other. answer comparisonOf comparisons (fine _);
       marks = λ highest ls ms.
           record {
             one = λ r s m m′ f g. (finds-one r s (checkMarks highest ls ms) f g, refl);

@@ -23,11 +23,12 @@ use mathlib.Core.Bool.{Bool}
 use mathlib.Core.List.{List, [], _∷_, List·Memᴰ}
 use Prim.Native.Nat.{ℕ, _+_, _*_, _≤_}
 use lib.ListN.{length}
-use Rattle.paper.specs.Outcome.{Outcome, refused}
+use Rattle.paper.specs.Outcome.{Outcome, accepted, refused, same}
 use Rattle.paper.specs.Memory.{Decided, Spared}
 use Rattle.paper.specs.Readings.{valueOf, truthOf, comparisonOf, passOf, checksOf, Finds}
 use Rattle.tree.specs.Anchors.{HIGHEST}
 use Rattle.tree.specs.Shape.{Shape}
+use Rattle.tree.specs.Words.{compared}
 use Rattle.line.specs.Elements.{line, lineOf}
 use Rattle.triangle.specs.Elements.{triangle, triangleOf}
 use Rattle.prism.specs.Elements.{prism, prismOf}
@@ -101,6 +102,7 @@ pub record OnLists : Type 0 where
       → Call gridOf (11 ∷ 18 ∷ 19 ∷ 20 ∷ 17 ∷ 21 ∷ 1 ∷ 15 ∷ 12 ∷ 22 ∷ 14 ∷ []) filed (read CHILDREN HIGHEST bytes m) m (λ r m′. FileRead bytes r m m′)
 
 pub record OnParts : Type 0 where
+  pub order : (first level second other : ℕ) → Answer comparisonOf [] 0 (accepted (compared first second (compared level other same)))
   pub marks : (highest : ℕ) (ls ms : List ℕ)
       → Call {M = Unit {0}} checksOf (11 ∷ 13 ∷ 7 ∷ []) (length ms) (checkMarks highest ls ms) tt (λ r m′. Finds r (checkMarks highest ls ms))
   pub number : (bytes : List ℕ) (i : ℕ) → Answer foundOf (19 ∷ 20 ∷ []) i (numberAt bytes i)
