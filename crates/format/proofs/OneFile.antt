@@ -1,9 +1,10 @@
 -- A list has one file and a file one list: reading and writing undo each other. Assumes nothing.
-use mathlib.Core.Path.{_≡_, refl, ap, _∙_, sym}
+use mathlib.Core.Path.{_≡_, refl, ap, ap₂, _∙_, sym, subst⁻¹}
 use mathlib.Core.List.{List}
 use Prim.Native.Nat.{ℕ, _≤_, _<_}
 use Rattle.paper.specs.Outcome.{Outcome, accepted, refused}
-use Rattle.leaves.specs.Leaves.{leaves}
+use Rattle.leaves.specs.Leaves.{leaves, spotAt, Valid}
+use Rattle.leaves.proofs.Entries.{one-ending}
 use Rattle.format.specs.File.{runsFile, fileOf}
 use Rattle.numbers.specs.Numbers.{highest}
 use Rattle.format.specs.Reading.{Grid, gridAt}
@@ -38,7 +39,9 @@ module _ (n L : ℕ) (positive : 0 < n) (low : L ≤ highest) where
         stands = λ bs more number at e long there. grid-stands bs more n L number at long there e;
         placed = λ bs number at e. grid-placed bs n L number at e .0;
         one-list = λ bs g g′ f f′. accepted-same g g′ (sym (reads bs g f) ∙ reads bs g′ f′);
-        one-file = λ bs bs′ g f f′. file-is bs g f ∙ sym (file-is bs′ g f′);
+        one-file = λ bs bs′ g g′ f f′ same.
+            let roots = one-ending n L (g .roots) (g′ .roots) (spotAt 0 0) (g .leaves) (f .grid .valid) (subst⁻¹ (Valid n L (g′ .roots)) same (f′ .grid .valid)) in
+            file-is bs g f ∙ ap₂ fileOf roots same ∙ sym (file-is bs′ g′ f′);
       }
     where
       by : (bs : List ℕ) → Bytes bs → ((g : Grid) → FileOf n L bs g → ⊥) → (o : Outcome Grid) → gridAt n L bs ≡ o

@@ -5,7 +5,7 @@
 --   OneFile       a list has runs, and no others; a file of a valid list is read as that list; what is read is a valid list, and the bytes
 --                 are its file; every other byte string is refused, by a fault that stands whatever bytes follow it, unless it is that bytes
 --                 are missing: 19, or 18 with less than four bytes; a fault's place is an offset in the file, or its end; so "A list has one
---                 file and a file one list"
+--                 file and a file one list", also where K is not given
 --
 -- Assumes nothing.
 use mathlib.Core.Path.{_≡_}
@@ -44,4 +44,4 @@ module _ (n L : ℕ) where
         → gridAt n L (bs ++ more) ≡ refused number at
     pub placed : (bs : List ℕ) (number at : ℕ) → gridAt n L bs ≡ refused number at → at ≤ length bs
     pub one-list : (bs : List ℕ) (g g′ : Grid) → FileOf bs g → FileOf bs g′ → g ≡ g′
-    pub one-file : (bs bs′ : List ℕ) (g : Grid) → FileOf bs g → FileOf bs′ g → bs ≡ bs′
+    pub one-file : (bs bs′ : List ℕ) (g g′ : Grid) → FileOf bs g → FileOf bs′ g′ → g .leaves ≡ g′ .leaves → bs ≡ bs′

@@ -2,27 +2,20 @@
 --
 --   RoundTrip     what was written is read as the list that was given; what was read is written as the bytes given; and a list is written for one
 --                 number of roots only, as one file
---   InMemory      what stands in the lent memory: the file in the bytes, the list in the columns
 --
--- Assumes nothing.
+-- Not here: what stands in the lent memory afterwards (`promises/specs/InMemory.antt`). Assumes nothing.
 use mathlib.Core.Path.{_≡_}
 use mathlib.Core.Bool.{true}
 use mathlib.Core.List.{List}
 use Prim.Native.Nat.{ℕ}
-use lib.ListN.{length, take}
+use lib.ListN.{length}
 use Rattle.paper.specs.Outcome.{accepted}
 use Rattle.paper.specs.Memory.{roomFor}
-use Rattle.paper.specs.Readings.{valueOf}
-use Rattle.paper.specs.declared.NumberAnswer.{NumberAnswer}
-use Rattle.tree.specs.Anchors.{HIGHEST}
-use Rattle.leaves.specs.Leaves.{CHILDREN, Columns, leaves, columnsOf, firstEntries, equalColumns, room}
+use Rattle.leaves.specs.Leaves.{Columns, leaves, columnsOf, equalColumns, room}
 use Rattle.numbers.specs.Laws.{Bytes}
-use Rattle.format.specs.File.{fileOf}
-use Rattle.format.specs.Reading.{Grid, gridAt}
-use Rattle.writer.specs.Calls.{write, FileWritten}
-use Rattle.reader.specs.Answers.{size, gridOf}
-use Rattle.reader.specs.Calls.{read, FileRead}
-use Rattle.reader.specs.declared.GridAnswer.{GridAnswer}
+use Rattle.format.specs.Reading.{Grid}
+use Rattle.writer.specs.Calls.{write}
+use Rattle.reader.specs.Calls.{read}
 
 module _ (n L : ℕ) where
   pub record RoundTrip : Type 0 where
@@ -32,10 +25,3 @@ module _ (n L : ℕ) where
         → write n L (g .roots) (columnsOf (g .leaves)) bytes ≡ roomFor (length bs) (length bytes) bs
     pub one-roots : (K K′ : ℕ) (cs : Columns) (bytes bytes′ file file′ : List ℕ)
         → write n L K cs bytes ≡ accepted file → write n L K′ cs bytes′ ≡ accepted file′ → (K ≡ K′) × (file ≡ file′)
-
-pub record InMemory : Type 0 where
-  pub saved : (k : ℕ) (r : NumberAnswer) (cs : Columns) (bytes bytes′ : List ℕ) (needed : ℕ)
-      → FileWritten k r cs bytes bytes′ → valueOf r ≡ accepted needed → take needed bytes′ ≡ fileOf k (leaves cs)
-  pub loaded : (bytes : List ℕ) (r : GridAnswer) (m m′ : Columns) (K N : ℕ) → FileRead bytes r m m′ → gridOf r ≡ accepted (size K N)
-      → gridAt CHILDREN HIGHEST bytes
-      ≡ accepted (record { roots = K; leaves = leaves (firstEntries N m′) })

@@ -72,4 +72,4 @@ module _ {E : Type 0} (S : Shape E) where
           (λ p q less below. at-apart S W (S .level e) p q (W .shallow e ok) less (omega (arith, position-lt S W e ok)))
 
     pub ranked-of-rises : Ranked S index
-    ranked-of-rises = record { rises = rises; counted = counted }
+    ranked-of-rises = record { counted = counted }

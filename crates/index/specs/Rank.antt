@@ -1,8 +1,7 @@
 -- "By demand 2 it equals the rank in the order of definition 22". Definitions only.
 --
---   Before S index f e   f is a valid element of e's level with a smaller index
---   Ranked S index       among the valid elements of one level the index rises with the position, and an element's position is the
---                        number of those before it
+--   Before S index f e   f is a sound element of e's level with a smaller index
+--   Ranked S index       an element's position is the number of those before it
 --
 -- Assumes nothing.
 use mathlib.Core.Path.{_≡_}
@@ -20,5 +19,4 @@ module _ {E : Type 0} (S : Shape E) (index : E → ℕ) where
     pub smaller : index f < index e
 
   pub record Ranked : Type 0 where
-    pub rises : (e f : E) → Sound S e → Sound S f → S .level e ≡ S .level f → position S e < position S f → index e < index f
     pub counted : (e : E) → Sound S e → Exactly (position S e) (λ f. Before f e)

@@ -1,23 +1,23 @@
 -- Demand 2: each part is a law of its crate, at the three shapes. Assumes nothing.
 use mathlib.Core.Bool.{Bool}
-use mathlib.Core.List.{List, []}
+use mathlib.Core.List.{List}
 use Prim.Native.Nat.{ℕ}
 use native.Mathlib.Omega.{arith}
-use Rattle.paper.specs.Outcome.{Outcome}
 use Rattle.tree.specs.Shape.{Shape}
 use Rattle.tree.specs.Laws.{Lawful, Faces, Constants}
-use Rattle.tree.proofs.CallLaws.{by-position, answered}
+use Rattle.tree.proofs.Accepting.{accepts}
+use Rattle.tree.proofs.CallLaws.{by-position, sound-answers}
 use Rattle.tree.proofs.Descent.{positions}
 use Rattle.tree.proofs.Ancestors.{ancestors}
 use Rattle.tree.proofs.Descendants.{descendants}
 use Rattle.tree.proofs.Ordering.{total-order}
 use Rattle.tree.proofs.CurveOrder.{curve-order}
 use Rattle.tree.proofs.Family.{families}
-use Rattle.line.specs.Elements.{line, lineOf}
+use Rattle.line.specs.Elements.{line}
 use Rattle.line.proofs.Faces.{line-faces}
-use Rattle.triangle.specs.Elements.{triangle, triangleOf}
+use Rattle.triangle.specs.Elements.{triangle}
 use Rattle.triangle.proofs.Faces.{triangle-faces}
-use Rattle.prism.specs.Elements.{prism, prismOf}
+use Rattle.prism.specs.Elements.{prism}
 use Rattle.prism.proofs.Faces.{prism-faces}
 use Rattle.index.specs.Index.{lineIndex, triangleIndex, prismIndex}
 use Rattle.index.specs.Rank.{Ranked}
@@ -31,7 +31,6 @@ use Rattle.balance.proofs.Exactly.{exact}
 use Rattle.numbers.proofs.Coded.{codec}
 use Rattle.format.proofs.OneFile.{one-file}
 use Rattle.gridfile.proofs.RoundTrip.{round-trip}
-use Rattle.gridfile.proofs.InMemory.{in-memory}
 use Rattle.line.proofs.Laws as lines
 use Rattle.line.proofs.Constants as line-constants
 use Rattle.triangle.proofs.Laws as triangles
@@ -46,20 +45,19 @@ use Rattle.shares.proofs.Promised as shares
 use Rattle.corners.proofs.Promised as corners
 use Rattle.orders.proofs.Promised as orders
 use Rattle.promises.specs.Demand2.{Figure, lineFigure, triangleFigure, prismFigure, Elements, OfElements, OfLists, OfFiles, Demand2}
-use Rattle.promises.proofs.Calls.{Determined}
-use Rattle.promises.proofs.ShapeCalls.{handed-back}
-use Rattle.promises.proofs.Determined as determined
+use Rattle.promises.proofs.ElementCalls.{handed-back}
 
-module _ {E R P : Type 0} (S : Shape E) (elementOf : R → Outcome E) (once : Determined elementOf) (index : E → ℕ) (F : Figure E P) where
+module _ {E P : Type 0} (S : Shape E) (index : E → ℕ) (F : Figure E P) where
   elements : Lawful S → Ranked S index → Constants S (F .corner) (F .corners) (F .points) (F .faces) → Faces S (F .points) (F .across)
-      → Elements S elementOf index F
+      → Elements S index F
   elements W ranked constants faces =
       record {
         lawful = W;
+        accepts = accepts S W;
         by-position = by-position S W;
         ranked = ranked;
-        answered = answered S W (λ e f i sound face is. faces .across e f i sound face is .sound);
-        handed-back = handed-back S elementOf once (faces .either);
+        sound-answers = sound-answers S W (λ e f i sound face is. faces .across e f i sound face is .sound);
+        handed-back = handed-back S (faces .either);
         positions = positions S W;
         ancestors = ancestors S W;
         descendants = descendants S W;
@@ -73,12 +71,12 @@ module _ {E R P : Type 0} (S : Shape E) (elementOf : R → Outcome E) (once : De
 of-elements : OfElements
 of-elements =
     record {
-      of-lines = elements line lineOf determined.lines lineIndex lineFigure (lines.lawful 21) (line-ranked 21) (line-constants.constants 21) (line-faces 21);
+      of-lines = elements line lineIndex lineFigure (lines.lawful 21) (line-ranked 21) (line-constants.constants 21) (line-faces 21);
       of-triangles =
-          elements triangle triangleOf determined.triangles (triangleIndex 21) triangleFigure
+          elements triangle (triangleIndex 21) triangleFigure
           (triangles.lawful 21) (triangle-ranked 21) (triangle-constants.constants 21) (triangle-faces 21);
       of-prisms =
-          elements prism prismOf determined.prisms (prismIndex 21) prismFigure
+          elements prism (prismIndex 21) prismFigure
           (prisms.lawful 21) (prism-ranked 21) (prism-constants.constants 21) (prism-faces 21);
       children-are-bey's = bey 21;
       refusal-4-of-triangles = triangle-inside.refusal-4 21;
@@ -106,7 +104,6 @@ of-files =
       numbers = codec;
       one-file = one-file 8 21 (omega arith) (omega arith);
       round-trip = round-trip 8 21 (omega arith) (omega arith);
-      in-memory = in-memory;
     }
 
 pub demand-2 : Demand2

@@ -2,7 +2,8 @@
 use mathlib.Core.Path.{_≡_, _∙_, sym, subst}
 use mathlib.Core.Bool.{true, not}
 use mathlib.Core.List.{List}
-use Prim.Native.Nat.{ℕ, _+_, _<_}
+use Prim.Native.Nat.{ℕ, zero, suc, _+_, _-_, _≤_, _<_}
+use native.Mathlib.Nat.{add-sub-of-le}
 use native.Mathlib.Omega.{arith}
 use lib.Dec.{ltb, eqb}
 use lib.ListN.{length, getD}
@@ -19,7 +20,7 @@ use Rattle.leaves.proofs.Entries.{some-leaf, leaves-of-columns}
 use Rattle.leaves.proofs.UniformValid.{uniform-listed}
 use Rattle.leaves.proofs.Listed.{in-range, columns-sound, listed-accepted, listed-fits}
 use Rattle.leaves.proofs.Columns.{leaves-length}
-use Rattle.shares.specs.Shares.{boundaries}
+use Rattle.shares.specs.Shares.{boundary, boundaries}
 use Rattle.shares.specs.Calls.{weightFault, shares}
 use Rattle.shares.specs.Laws.{Fair, Weighty}
 use Rattle.prism.proofs.Laws as prism-laws
@@ -27,6 +28,14 @@ use Rattle.adaption.proofs.Promised as adaption-laws
 use Rattle.shares.proofs.Promised as shares-laws
 use Rattle.gridfile.proofs.RoundTrip.{loads-list}
 use Rattle.promises.specs.Demand3.{Begun, started, loaded, Reached, Divided, OfGrids}
+
+-- boundaries rise
+rising-to : {P : ℕ} {ws : List ℕ} → Fair P ws → (a b : ℕ) → a ≤ b → boundary P ws a ≤ boundary P ws b
+rising-to {P} {ws} fair a b up = subst (λ (c : ℕ). boundary P ws a ≤ boundary P ws c) (add-sub-of-le up) (by (b - a))
+  where
+    by : (k : ℕ) → boundary P ws a ≤ boundary P ws (a + k)
+    by zero = omega arith
+    by (suc k) = omega (arith, by k, fair .rising (a + k))
 
 of-list : (K P : ℕ) (vs : List Leaf) (ws : List ℕ) → Valid 8 21 K vs → 0 < length vs → length ws ≡ length vs → Weighty ws → 0 < P → Divided K P vs ws
 unfolding prismTo
@@ -41,6 +50,10 @@ of-list K P vs ws valid some long weighty positive = by (shares-laws.promised .f
           along = cell-laws prism (prism-laws.lawful 21) .along K vs valid;
           weighed = long;
           fair = fair;
+          shares-along = λ s t i j earlier below from to.
+              cell-laws prism (prism-laws.lawful 21) .along K vs valid i j
+              (omega (arith, from .to, to .from, rising-to fair (s + 1) t (omega arith)))
+              (omega (arith, to .to, rising-to fair (t + 1) P (omega arith), fair .to-all));
         }
 
 -- the tests that an accepted call of shares has passed

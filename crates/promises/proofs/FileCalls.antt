@@ -21,9 +21,12 @@ use Rattle.writer.specs.Calls.{write}
 use Rattle.reader.specs.Calls.{read}
 use Rattle.format.proofs.Cases as cases
 use Rattle.promises.specs.Refusals.{Refuses}
-use Rattle.promises.specs.Demand1.{Any, filed}
+use Rattle.promises.specs.Demand1.{filed}
 use Rattle.promises.proofs.Refusals.{when, when-at, then-so, room-so, fine, at0, at1, at2, at3, at4, after}
 use Rattle.promises.proofs.ListCalls.{Listed, listed-so}
+
+abbrev Any : {A : Type 0} → A → Type 0
+Any a = Unit {0}
 
 -- its refusal, if it is one, has a number of the list
 abbrev Numbered : {A : Type 0} → List ℕ → Outcome A → Type 0

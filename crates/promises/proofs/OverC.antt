@@ -19,27 +19,27 @@ use Rattle.text.specs.Text.{longestOutput}
 use Rattle.results.specs.Results.{lineResult, triangleResult, prismResult, numberResult, truthResult, compareResult, passResult, gridResult, pointResult}
 use Rattle.results.specs.Laws.{Kind, lines, triangles, prisms, numbers, comparisons, words, grids, points, Result}
 use Rattle.results.proofs.Laws.{Fits, number-result, truth-result, compare-result, pass-result, grid-result, point-result, line-result, triangle-result, prism-result, shown-result}
-use Rattle.promises.specs.Demand1.{Any, filed, OfCalls}
-use Rattle.promises.specs.OverC.{OnElements, OnLists, OverC}
+use Rattle.promises.specs.Demand1.{filed, OfCalls}
+use Rattle.promises.specs.OverC.{ElementsOverC, OverC}
 use Rattle.promises.proofs.Flat.{said, fits, flat, returns}
 use Rattle.promises.specs.Demand1 as demand1
 
 module _ {E Q R : Type 0} (S : Shape E) (elementOf : Q → Outcome E) (faults : List ℕ) (kind : Kind R) (result : Outcome E → R) (is : Result kind result) where
-  on-elements : said faults ≡ true → demand1.OnElements S elementOf Any faults → OnElements S kind result
+  on-elements : said faults ≡ true → demand1.OnElements S elementOf faults → ElementsOverC S kind result
   unfolding said
   on-elements known calls =
       record {
         at = λ l p. returns kind result is _ (fits (1 ∷ 5 ∷ []) 0 _ refl (omega arith) (calls .at l p .refusals));
-        position = λ e. returns numbers numberResult number-result _ (fits faults 0 _ known (omega arith) (calls .position e tt .refusals));
-        parent = λ e. returns kind result is _ (fits (6 ∷ faults) 0 _ known (omega arith) (calls .parent e tt .refusals));
-        child = λ e i. returns kind result is _ (fits (7 ∷ 8 ∷ faults) 0 _ known (omega arith) (calls .child e i tt .refusals));
-        successor = λ e. returns kind result is _ (fits (9 ∷ faults) 0 _ known (omega arith) (calls .successor e tt .refusals));
-        first = λ e l. returns kind result is _ (fits (1 ∷ 6 ∷ faults) 0 _ known (omega arith) (calls .first e l tt .refusals));
-        last = λ e l. returns kind result is _ (fits (1 ∷ 6 ∷ faults) 0 _ known (omega arith) (calls .last e l tt .refusals));
-        neighbour = λ e i. returns kind result is _ (fits (8 ∷ 10 ∷ faults) 0 _ known (omega arith) (calls .neighbour e i tt .refusals));
+        position = λ e. returns numbers numberResult number-result _ (fits faults 0 _ known (omega arith) (calls .position e .refusals));
+        parent = λ e. returns kind result is _ (fits (6 ∷ faults) 0 _ known (omega arith) (calls .parent e .refusals));
+        child = λ e i. returns kind result is _ (fits (7 ∷ 8 ∷ faults) 0 _ known (omega arith) (calls .child e i .refusals));
+        successor = λ e. returns kind result is _ (fits (9 ∷ faults) 0 _ known (omega arith) (calls .successor e .refusals));
+        first = λ e l. returns kind result is _ (fits (6 ∷ faults) 0 _ known (omega arith) (calls .first e l .refusals));
+        last = λ e l. returns kind result is _ (fits (6 ∷ faults) 0 _ known (omega arith) (calls .last e l .refusals));
+        neighbour = λ e i. returns kind result is _ (fits (8 ∷ 10 ∷ faults) 0 _ known (omega arith) (calls .neighbour e i .refusals));
         family = λ equal es few.
-            returns numbers truthResult truth-result _ (fits (11 ∷ faults) (length es) _ known few (calls .family equal es (λ e inside. tt) .refusals));
-        compare = λ e f. returns comparisons compareResult compare-result _ (fits faults 1 _ known (omega arith) (calls .order e f tt tt .refusals));
+            returns numbers truthResult truth-result _ (fits (11 ∷ faults) (length es) _ known few (calls .family equal es .refusals));
+        compare = λ e f. returns comparisons compareResult compare-result _ (fits faults 1 _ known (omega arith) (calls .order e f .refusals));
       }
 
 -- how many entries or bytes were written

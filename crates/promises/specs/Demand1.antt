@@ -9,9 +9,8 @@
 --                          memory; where the answer's reading f is a refusal, the memory is what it was; and a refusal has one of the numbers
 --                          ns, and a place up to `most`
 --   Answer f ns most o     the same for a call that is lent nothing to write into: its contract is that its answer's reading is o
---   Any e                  any element
---   OnElements S f H fs    the calls on the elements of a shape: whatever is handed in has the property H, and fs are the numbers of the checks
---                          on an element
+--   OnElements S f fs      the calls on the elements of a shape; fs are the numbers of the checks on an element, 1 among them, which is also that
+--                          of a level asked for
 --   filed                  no offset in a sound part of a file is larger: four bytes, K, R, and at most 1,048,576 runs of two numbers of three bytes
 --   OnLists                the calls on lists and files
 --   OnParts                the calls that those are made of
@@ -20,7 +19,7 @@
 -- Assumes nothing.
 use mathlib.Core.Path.{_≡_}
 use mathlib.Core.Bool.{Bool}
-use mathlib.Core.List.{List, [], _∷_, List·Memᴰ}
+use mathlib.Core.List.{List, [], _∷_}
 use Prim.Native.Nat.{ℕ, _+_, _*_, _≤_}
 use lib.ListN.{length}
 use Rattle.paper.specs.Outcome.{Outcome, accepted, refused, same}
@@ -67,21 +66,17 @@ abbrev pub Answer : {R A : Type 0} → (R → Outcome A) → List ℕ → ℕ �
 Answer {R} reading numbers most due = Call {M = Unit {0}} reading numbers most due tt (λ (r : R) (m′ : Unit {0}). reading r ≡ due)
 
 -- ---- elements
-abbrev pub Any : {E : Type 0} → E → Type 0
-Any e = Unit {0}
-
-pub record OnElements {E R : Type 0} (S : Shape E) (elementOf : R → Outcome E) (Handed : E → Type 0) (faults : List ℕ) : Type 0 where
+pub record OnElements {E R : Type 0} (S : Shape E) (elementOf : R → Outcome E) (faults : List ℕ) : Type 0 where
   pub at : (l p : ℕ) → Answer elementOf (1 ∷ 5 ∷ []) 0 (calls.at S l p)
-  pub position : (e : E) → Handed e → Answer valueOf faults 0 (calls.position S e)
-  pub parent : (e : E) → Handed e → Answer elementOf (6 ∷ faults) 0 (calls.parent S e)
-  pub child : (e : E) (i : ℕ) → Handed e → Answer elementOf (7 ∷ 8 ∷ faults) 0 (calls.child S e i)
-  pub successor : (e : E) → Handed e → Answer elementOf (9 ∷ faults) 0 (calls.successor S e)
-  pub first : (e : E) (l : ℕ) → Handed e → Answer elementOf (1 ∷ 6 ∷ faults) 0 (calls.first S e l)
-  pub last : (e : E) (l : ℕ) → Handed e → Answer elementOf (1 ∷ 6 ∷ faults) 0 (calls.last S e l)
-  pub neighbour : (e : E) (i : ℕ) → Handed e → Answer elementOf (8 ∷ 10 ∷ faults) 0 (calls.neighbour S e i)
-  pub family : (equal : Bool) (es : List E) → ((e : E) → List·Memᴰ e es → Handed e)
-      → Answer truthOf (11 ∷ faults) (length es) (calls.family S equal es)
-  pub order : (e f : E) → Handed e → Handed f → Answer comparisonOf faults 1 (calls.order S e f)
+  pub position : (e : E) → Answer valueOf faults 0 (calls.position S e)
+  pub parent : (e : E) → Answer elementOf (6 ∷ faults) 0 (calls.parent S e)
+  pub child : (e : E) (i : ℕ) → Answer elementOf (7 ∷ 8 ∷ faults) 0 (calls.child S e i)
+  pub successor : (e : E) → Answer elementOf (9 ∷ faults) 0 (calls.successor S e)
+  pub first : (e : E) (l : ℕ) → Answer elementOf (6 ∷ faults) 0 (calls.first S e l)
+  pub last : (e : E) (l : ℕ) → Answer elementOf (6 ∷ faults) 0 (calls.last S e l)
+  pub neighbour : (e : E) (i : ℕ) → Answer elementOf (8 ∷ 10 ∷ faults) 0 (calls.neighbour S e i)
+  pub family : (equal : Bool) (es : List E) → Answer truthOf (11 ∷ faults) (length es) (calls.family S equal es)
+  pub order : (e f : E) → Answer comparisonOf faults 1 (calls.order S e f)
 
 -- ---- lists and files
 abbrev pub filed : ℕ
@@ -115,9 +110,9 @@ pub record OnParts : Type 0 where
   pub printed : (bytes m : List ℕ) → Decided (λ end m′. Put bytes 0 m m′ end)
 
 pub record OfCalls : Type 0 where
-  pub on-lines : OnElements line lineOf Any (1 ∷ 2 ∷ [])
-  pub on-triangles : OnElements triangle triangleOf Any (1 ∷ 2 ∷ 3 ∷ 4 ∷ [])
-  pub on-prisms : OnElements prism prismOf Any (1 ∷ 2 ∷ 3 ∷ 4 ∷ [])
+  pub on-lines : OnElements line lineOf (1 ∷ 2 ∷ [])
+  pub on-triangles : OnElements triangle triangleOf (1 ∷ 2 ∷ 3 ∷ 4 ∷ [])
+  pub on-prisms : OnElements prism prismOf (1 ∷ 2 ∷ 3 ∷ 4 ∷ [])
   pub on-lists : OnLists
   pub on-points : (l p i : ℕ) (r : Root) → Answer pointOf (1 ∷ 5 ∷ 8 ∷ 24 ∷ []) 0 (cornerPoint l p i r)
   pub on-orders : (input m : List ℕ) → Call valueOf (14 ∷ []) longestOutput (answer input (length m)) m (λ r m′. Answered r input m m′)

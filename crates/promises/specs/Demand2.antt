@@ -4,7 +4,9 @@
 --
 --   Figure        the corner points of a shape's elements: by number, as the paper lists them, those of a face by number, all faces, and which number
 --                 a face has for the neighbour
---   Elements      what is promised of one shape, with its answers, its index and its corner points
+--                 (lineFigure, triangleFigure, prismFigure: of the three)
+--   HandedBack    "no call refuses it by 1 to 4": what a call can refuse a sound element by
+--   Elements      what is promised of one shape, with its index and its corner points
 --   OfElements    of the elements of all three shapes
 --   OfLists       of leaf lists: the list check is exact, and so is what any list call accepts; each smallest cell lies in one leaf; a leaf's
 --                 relatives are the prism's; adaption is the paper's one pass, boundaries are the paper's, balanced is the paper's
@@ -14,22 +16,23 @@
 --
 -- Assumes nothing.
 use mathlib.Core.Bool.{Bool}
-use mathlib.Core.List.{List, []}
-use Prim.Native.Nat.{ℕ}
-use Rattle.paper.specs.Outcome.{Outcome}
+use mathlib.Core.List.{List, [], _∷_, List·Memᴰ}
+use Prim.Native.Nat.{ℕ, _≤_}
+use lib.ListN.{length}
 use Rattle.tree.specs.Anchors.{HIGHEST}
 use Rattle.tree.specs.Shape.{Shape}
+use Rattle.tree.specs.Calls as calls
 use Rattle.tree.specs.Laws.{Sound, Lawful, Positions, TotalOrder, Families, Faces, Constants}
 use Rattle.tree.specs.Ancestors.{Ancestors}
 use Rattle.tree.specs.Descendants.{Descendants, CurveOrder}
-use Rattle.tree.specs.CallLaws.{ByPosition, Answered}
+use Rattle.tree.specs.CallLaws.{Accepts, ByPosition, SoundAnswers}
 use Rattle.line.specs.declared.Line.{Line}
-use Rattle.line.specs.Elements.{line, lineOf}
+use Rattle.line.specs.Elements.{line}
 use Rattle.triangle.specs.declared.Triangle.{Triangle}
-use Rattle.triangle.specs.Elements.{triangle, triangleOf}
+use Rattle.triangle.specs.Elements.{triangle}
 use Rattle.triangle.specs.Points.{Point}
 use Rattle.prism.specs.declared.Prism.{Prism}
-use Rattle.prism.specs.Elements.{prism, prismOf}
+use Rattle.prism.specs.Elements.{prism}
 use Rattle.prism.specs.Points.{Corner}
 use Rattle.index.specs.Bey.{Bey}
 use Rattle.index.specs.Index.{lineIndex, triangleIndex, prismIndex}
@@ -41,7 +44,7 @@ use Rattle.adaption.specs.Laws.{Relatives}
 use Rattle.balance.specs.Balance.{ExactBalance}
 use Rattle.numbers.specs.Laws.{Codec}
 use Rattle.format.specs.Laws.{OneFile}
-use Rattle.gridfile.specs.Laws.{RoundTrip, InMemory}
+use Rattle.gridfile.specs.Laws.{RoundTrip}
 use Rattle.line.specs.Points as line-points
 use Rattle.triangle.specs.Points as triangle-points
 use Rattle.prism.specs.Points as prism-points
@@ -50,7 +53,7 @@ use Rattle.adaption.specs.Laws as adaption
 use Rattle.shares.specs.Laws as shares
 use Rattle.corners.specs.Laws as corners
 use Rattle.orders.specs.Laws as orders
-use Rattle.promises.specs.Demand1.{OnElements}
+use Rattle.promises.specs.Refusals.{Refuses}
 
 pub record Figure (E P : Type 0) : Type 0 where
   pub corner : E → ℕ → P
@@ -59,12 +62,25 @@ pub record Figure (E P : Type 0) : Type 0 where
   pub faces : E → List (List P)
   pub across : ℕ → ℕ
 
-pub record Elements {E R P : Type 0} (S : Shape E) (elementOf : R → Outcome E) (index : E → ℕ) (F : Figure E P) : Type 0 where
+-- a sound element handed in is refused by none of 1 to 4; 1 is then the level that was asked for
+pub record HandedBack {E : Type 0} (S : Shape E) : Type 0 where
+  pub position : (e : E) → Sound S e → Refuses [] 0 (calls.position S e)
+  pub parent : (e : E) → Sound S e → Refuses (6 ∷ []) 0 (calls.parent S e)
+  pub child : (e : E) (i : ℕ) → Sound S e → Refuses (7 ∷ 8 ∷ []) 0 (calls.child S e i)
+  pub successor : (e : E) → Sound S e → Refuses (9 ∷ []) 0 (calls.successor S e)
+  pub first : (e : E) (l : ℕ) → Sound S e → l ≤ S .highest → Refuses (6 ∷ []) 0 (calls.first S e l)
+  pub last : (e : E) (l : ℕ) → Sound S e → l ≤ S .highest → Refuses (6 ∷ []) 0 (calls.last S e l)
+  pub neighbour : (e : E) (i : ℕ) → Sound S e → Refuses (8 ∷ 10 ∷ []) 0 (calls.neighbour S e i)
+  pub family : (equal : Bool) (es : List E) → ((e : E) → List·Memᴰ e es → Sound S e) → Refuses (11 ∷ []) 0 (calls.family S equal es)
+  pub order : (e f : E) → Sound S e → Sound S f → Refuses [] 0 (calls.order S e f)
+
+pub record Elements {E P : Type 0} (S : Shape E) (index : E → ℕ) (F : Figure E P) : Type 0 where
   pub lawful : Lawful S
+  pub accepts : Accepts S
   pub by-position : ByPosition S
   pub ranked : Ranked S index
-  pub answered : Answered S
-  pub handed-back : OnElements S elementOf (Sound S) []
+  pub sound-answers : SoundAnswers S
+  pub handed-back : HandedBack S
   pub positions : Positions S
   pub ancestors : Ancestors S
   pub descendants : Descendants S
@@ -105,9 +121,9 @@ prismFigure =
     }
 
 pub record OfElements : Type 0 where
-  pub of-lines : Elements line lineOf lineIndex lineFigure
-  pub of-triangles : Elements triangle triangleOf (triangleIndex HIGHEST) triangleFigure
-  pub of-prisms : Elements prism prismOf (prismIndex HIGHEST) prismFigure
+  pub of-lines : Elements line lineIndex lineFigure
+  pub of-triangles : Elements triangle (triangleIndex HIGHEST) triangleFigure
+  pub of-prisms : Elements prism (prismIndex HIGHEST) prismFigure
   pub children-are-bey's : Bey HIGHEST
   pub refusal-4-of-triangles : triangle-points.Refusal4 HIGHEST
   pub refusal-4-of-prisms : prism-points.Refusal4 HIGHEST
@@ -128,7 +144,6 @@ pub record OfFiles : Type 0 where
   pub numbers : Codec
   pub one-file : OneFile CHILDREN HIGHEST
   pub round-trip : RoundTrip CHILDREN HIGHEST
-  pub in-memory : InMemory
 
 pub record Demand2 : Type 0 where
   pub of-elements : OfElements

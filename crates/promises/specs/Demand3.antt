@@ -7,41 +7,28 @@
 --   Reached K vs   it begins so, and accepted adaptions lead to vs, one after the other
 --   Owner          a smallest cell lies in exactly one listed prism, and that prism in exactly one share
 --   Divided        the grid vs of K roots, with the weights ws, among P machines: each cell has its owner; the leaves stand along the curve, each
---                  before all later ones, so that shares do, which run from no leaf to all without gaps; and both bounds, strict (`Fair`)
+--                  before all later ones; the shares run from no leaf to all without gaps, and both bounds are strict (`Fair`); every leaf of
+--                  an earlier share comes before every leaf of a later one
 --   OfGrids        demand 3: of any valid grid, of any that is reached, and of what any accepted call of shares answers
---   InMemory       what stands in the lent memory after an accepted call: the first entries are a valid list, which every list call accepts
---                  (`ListCall` in demand 2), or the boundaries of such a division
---   InMemoryOverC  the same after a function over C whose word is 0
---   Demand3        all of it
 --
--- Assumes nothing.
+-- Not here: what stands in the lent memory then (`InMemory.antt`). Assumes nothing.
 use mathlib.Core.Path.{_≡_}
 use mathlib.Core.List.{List}
-use Prim.Native.Nat.{ℕ, _+_, _<_}
-use lib.ListN.{length, take}
-use Rattle.paper.specs.Outcome.{accepted, passed}
-use Rattle.paper.specs.Readings.{valueOf, passOf}
-use Rattle.paper.specs.declared.NumberAnswer.{NumberAnswer}
-use Rattle.paper.specs.declared.PassAnswer.{PassAnswer}
+use Prim.Native.Nat.{ℕ, _<_}
+use lib.ListN.{length}
+use Rattle.paper.specs.Outcome.{accepted}
 use Rattle.tree.specs.Anchors.{HIGHEST}
 use Rattle.tree.specs.Laws.{Sound}
 use Rattle.prism.specs.declared.Prism.{Prism}
 use Rattle.prism.specs.Elements.{prism}
-use Rattle.leaves.specs.Leaves.{CHILDREN, Leaf, nth, Columns, leaves, firstEntries, Valid}
-use Rattle.leaves.specs.Calls.{uniform, Started}
-use Rattle.leaves.specs.Laws.{ValidList}
+use Rattle.leaves.specs.Leaves.{CHILDREN, Leaf, nth, Columns, leaves, Valid}
+use Rattle.leaves.specs.Calls.{uniform}
 use Rattle.leaves.specs.Cells.{OneLeaf, Earlier}
-use Rattle.adaption.specs.Calls.{Adapted}
 use Rattle.adaption.specs.Laws.{Steps}
 use Rattle.shares.specs.Shares.{boundaries}
-use Rattle.shares.specs.Calls.{shares, Shared}
-use Rattle.shares.specs.Laws.{OneShare, Fair, Weighty}
-use Rattle.reader.specs.Answers.{size, gridOf}
-use Rattle.reader.specs.Calls.{read, FileRead}
-use Rattle.reader.specs.declared.GridAnswer.{GridAnswer}
-use Rattle.results.specs.declared.NumberResult.{NumberResult}
-use Rattle.results.specs.declared.GridResult.{GridResult}
-use Rattle.interface.specs.Calls.{UniformResult, AdaptResult, SharesResult, ReadResult}
+use Rattle.shares.specs.Calls.{shares}
+use Rattle.shares.specs.Laws.{InShare, OneShare, Fair, Weighty}
+use Rattle.reader.specs.Calls.{read}
 
 pub data Begun (K : ℕ) (vs : List Leaf) : Type 0 where
   started : (level : ℕ) (lent : Columns) → uniform CHILDREN HIGHEST K level lent ≡ accepted vs → Begun K vs
@@ -62,6 +49,7 @@ pub record Divided (K P : ℕ) (vs : List Leaf) (ws : List ℕ) : Type 0 where
   pub along : (i j : ℕ) → i < j → j < length vs → Earlier prism (nth vs i) (nth vs j)
   pub weighed : length ws ≡ length vs
   pub fair : Fair P ws
+  pub shares-along : (s t i j : ℕ) → s < t → t < P → InShare P ws s i → InShare P ws t j → Earlier prism (nth vs i) (nth vs j)
 
 pub record OfGrids : Type 0 where
   pub of-valid : (K P : ℕ) (vs : List Leaf) (ws : List ℕ) → 0 < K → Valid CHILDREN HIGHEST K vs → length ws ≡ length vs → Weighty ws → 0 < P
@@ -69,28 +57,3 @@ pub record OfGrids : Type 0 where
   pub of-reached : (K P : ℕ) (vs : List Leaf) (ws : List ℕ) → Reached K vs → length ws ≡ length vs → Weighty ws → 0 < P → Divided K P vs ws
   pub of-accepted : (K P : ℕ) (cs : Columns) (ws column bs : List ℕ) → shares CHILDREN HIGHEST K P cs ws column ≡ accepted bs
       → (bs ≡ boundaries P ws) × Divided K P (leaves cs) ws
-
-pub record InMemory : Type 0 where
-  pub started : (k level N : ℕ) (r : NumberAnswer) (m m′ : Columns) → Started k level r m m′ → valueOf r ≡ accepted N
-      → ValidList CHILDREN HIGHEST k (firstEntries N m′)
-  pub adapted : (k N : ℕ) (r : NumberAnswer) (cs : Columns) (ms : List ℕ) (m m′ : Columns) → Adapted k r cs ms m m′ → valueOf r ≡ accepted N
-      → ValidList CHILDREN HIGHEST k (firstEntries N m′)
-  pub loaded : (bytes : List ℕ) (K N : ℕ) (r : GridAnswer) (m m′ : Columns) → FileRead bytes r m m′ → gridOf r ≡ accepted (size K N)
-      → ValidList CHILDREN HIGHEST K (firstEntries N m′)
-  pub shared : (k p : ℕ) (r : PassAnswer) (cs : Columns) (ws m m′ : List ℕ) → Shared k p r cs ws m m′ → passOf r ≡ passed
-      → (take (p + 1) m′ ≡ boundaries p ws) × Divided k p (leaves cs) ws
-
-pub record InMemoryOverC : Type 0 where
-  pub started : (k level : ℕ) (r : NumberResult) (m m′ : Columns) → UniformResult k level r m m′ → r .refusal ≡ 0
-      → ValidList CHILDREN HIGHEST k (firstEntries (r .value) m′)
-  pub adapted : (k : ℕ) (r : NumberResult) (cs : Columns) (ms : List ℕ) (m m′ : Columns) → AdaptResult k r cs ms m m′ → r .refusal ≡ 0
-      → ValidList CHILDREN HIGHEST k (firstEntries (r .value) m′)
-  pub loaded : (bytes : List ℕ) (r : GridResult) (m m′ : Columns) → ReadResult r bytes m m′ → r .refusal ≡ 0
-      → ValidList CHILDREN HIGHEST (r .roots) (firstEntries (r .leaves) m′)
-  pub shared : (k p r : ℕ) (cs : Columns) (ws m m′ : List ℕ) → SharesResult k p r cs ws m m′ → r ≡ 0
-      → (take (p + 1) m′ ≡ boundaries p ws) × Divided k p (leaves cs) ws
-
-pub record Demand3 : Type 0 where
-  pub of-grids : OfGrids
-  pub in-memory : InMemory
-  pub in-memory-over-c : InMemoryOverC

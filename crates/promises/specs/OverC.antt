@@ -4,9 +4,9 @@
 --                     runs return the same and leave the same memory; the result's word tells the outcome; where it is not 0, every other field is 0
 --                     and the memory is what it was
 --   Returns k f o     the same for a function that is lent nothing to write into: it returns the result f o
---   OnElements S k f  the functions on the elements of a shape, whose element results are f, of kind k. A family's place is read back below
+--   ElementsOverC S k f   the functions on the elements of a shape, whose element results are f, of kind k. A family's place is read back below
 --                     2^56 (`Results.antt` of `results`), so it is said of columns with fewer entries; no memory holds more
---   OnLists           the functions on lists and files
+--   ListsOverC        the functions on lists and files
 --   OverC             all of it
 --
 -- Assumes nothing.
@@ -46,7 +46,7 @@ pub record Flat {A R M : Type 0} (kind : Kind R) (due : Outcome A) (m : M) (C : 
 abbrev pub Returns : {A R : Type 0} → Kind R → (Outcome A → R) → Outcome A → Type 0
 Returns {R = R} kind result due = Flat {M = Unit {0}} kind due tt (λ (r : R) (m′ : Unit {0}). r ≡ result due)
 
-pub record OnElements {E R : Type 0} (S : Shape E) (kind : Kind R) (result : Outcome E → R) : Type 0 where
+pub record ElementsOverC {E R : Type 0} (S : Shape E) (kind : Kind R) (result : Outcome E → R) : Type 0 where
   pub at : (l p : ℕ) → Returns kind result (calls.at S l p)
   pub position : (e : E) → Returns numbers numberResult (calls.position S e)
   pub parent : (e : E) → Returns kind result (calls.parent S e)
@@ -58,7 +58,7 @@ pub record OnElements {E R : Type 0} (S : Shape E) (kind : Kind R) (result : Out
   pub family : (equal : Bool) (es : List E) → length es < 2 ^ 56 → Returns numbers truthResult (calls.family S equal es)
   pub compare : (e f : E) → Returns comparisons compareResult (calls.order S e f)
 
-pub record OnLists : Type 0 where
+pub record ListsOverC : Type 0 where
   pub check : (k : ℕ) (cs : Columns) → Returns words passResult (checkList CHILDREN HIGHEST k cs)
   pub uniform : (k level : ℕ) (m : Columns) → Flat numbers (uniform CHILDREN HIGHEST k level m) m (λ r m′. UniformResult k level r m m′)
   pub balanced : (k : ℕ) (cs : Columns) → Returns numbers truthResult (balanced CHILDREN HIGHEST k cs)
@@ -68,9 +68,9 @@ pub record OnLists : Type 0 where
   pub read : (bytes : List ℕ) (m : Columns) → Flat grids (read CHILDREN HIGHEST bytes m) m (λ r m′. ReadResult r bytes m m′)
 
 pub record OverC : Type 0 where
-  pub on-lines : OnElements line lines lineResult
-  pub on-triangles : OnElements triangle triangles triangleResult
-  pub on-prisms : OnElements prism prisms prismResult
-  pub on-lists : OnLists
+  pub on-lines : ElementsOverC line lines lineResult
+  pub on-triangles : ElementsOverC triangle triangles triangleResult
+  pub on-prisms : ElementsOverC prism prisms prismResult
+  pub on-lists : ListsOverC
   pub on-points : (l p i : ℕ) (r : Root) → Returns points pointResult (cornerPoint l p i r)
   pub on-orders : (input m : List ℕ) → Flat numbers (answer input (length m)) m (λ r m′. OrderResult r input m m′)

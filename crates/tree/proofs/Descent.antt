@@ -8,7 +8,7 @@ use Rattle.tree.specs.Shape.{Shape}
 use Rattle.tree.specs.Words.{positionAt, position, successor, descend, first, last}
 use Rattle.tree.specs.Laws.{Sound, Lawful, OfLevel, Positions}
 use Rattle.tree.proofs.Digits.{digit-div}
-use Rattle.tree.proofs.RoundTrip.{position-at}
+use Rattle.tree.proofs.RoundTrip.{at-sound, at-level, position-at}
 
 module _ {E : Type 0} (S : Shape E) (W : Lawful S) where
   -- ---- one step up, one step down
@@ -31,8 +31,12 @@ module _ {E : Type 0} (S : Shape E) (W : Lawful S) where
       ∙ ap₂ (λ (f : E) (k : ℕ). S .children * position S f + k) (W .parent-child e i sound room small) (W .number-child e i sound room small)
 
   pub of-successor : (e : E) → Sound S e → position S e + 1 < S .children ^ S .level e
-      → position S (successor S e) ≡ position S e + 1
-  of-successor e sound below = position-at S W (S .level e) (position S e + 1) (W .shallow e sound) below
+      → OfLevel S (successor S e) (S .level e) × (position S (successor S e) ≡ position S e + 1)
+  of-successor e sound below =
+      let shallow = W .shallow e sound in (
+        record { sound = at-sound S W (S .level e) (position S e + 1) shallow below; level = at-level S W (S .level e) (position S e + 1) },
+        position-at S W (S .level e) (position S e + 1) shallow below,
+      )
 
   -- ---- always to the same child
   pub descend-level : (i k : ℕ) (e : E) → S .level (descend S i k e) ≡ S .level e + k

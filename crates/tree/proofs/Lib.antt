@@ -12,6 +12,7 @@ pub mod Family
 pub mod Walk
 pub mod Sibling
 pub mod Call
+pub mod Accepting
 pub mod CallLaws
 pub mod Faces
 pub mod Apart

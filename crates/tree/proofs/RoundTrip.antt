@@ -6,8 +6,16 @@ use native.Mathlib.Nat.{mod-lt, div-add-mod, pow-zero, le-of-suc-le, suc-inj}
 use native.Mathlib.Omega.{arith}
 use Rattle.tree.specs.Shape.{Shape}
 use Rattle.tree.specs.Words.{elementAt, positionAt, position}
-use Rattle.tree.specs.Laws.{Sound, Lawful, RoundTrips}
+use Rattle.tree.specs.Laws.{Sound, Lawful}
 use Rattle.tree.proofs.Digits.{digit-div, digit-mod, digit-lt, div-lt}
+
+-- all of it, of the words; `CallLaws.antt` says it of the calls
+pub record RoundTrips {E : Type 0} (S : Shape E) : Type 0 where
+  pub at-sound : (l p : ℕ) → l ≤ S .highest → p < S .children ^ l → Sound S (elementAt S l p)
+  pub at-level : (l p : ℕ) → S .level (elementAt S l p) ≡ l
+  pub position-at : (l p : ℕ) → l ≤ S .highest → p < S .children ^ l → position S (elementAt S l p) ≡ p
+  pub position-lt : (e : E) → Sound S e → position S e < S .children ^ S .level e
+  pub at-position : (e : E) → Sound S e → elementAt S (S .level e) (position S e) ≡ e
 
 module _ {E : Type 0} (S : Shape E) (W : Lawful S) where
   n-pos : 0 < S .children

@@ -1,11 +1,12 @@
 -- What is promised of the elements of every shape, as statements; `proofs/` proves them from what each shape shows of itself
 -- (`Lawful`), over the number of children and the highest level. Definitions only.
 --
---   Sound e        e is a valid element: it passes the checks on an element
+--   Sound e        e is sound, a valid element: it passes the checks on an element
 --   Lawful         what a shape shows of its own tables: one step down and one step up undo each other, among sound elements
---   RoundTrips     "each position below eight to the power of the level gives back its element", and the other way round
---   Positions      the positions of parent, child, successor, first and last descendant (that they are valid and of which level, `Lawful`
---                  and `Descendants` say)
+--   childrenOf f   the children of f, in order
+--   OfLevel f l    f is a sound element of level l
+--   Positions      the positions of parent, child, successor, first and last descendant; the successor is sound and of "same level" (of the others
+--                  `Lawful` and `Descendants` say it)
 --   TotalOrder     the order of two is a total order
 --   Across e f i j   face i of e is face j of the other element f
 --   Faces          a face neighbour lies across: it is another valid element of the level and shares that whole face; whoever has the face
@@ -24,7 +25,7 @@ use mathlib.Core.List.{List, List·Memᴰ, List·Nodup}
 use Prim.Native.Nat.{ℕ, suc, _+_, _-_, _*_, _/_, _^_, _≤_, _<_}
 use Rattle.paper.specs.Outcome.{accepted, refused, less, same, greater, rows}
 use Rattle.tree.specs.Shape.{Shape}
-use Rattle.tree.specs.Words.{elementAt, position, successor, first, last, family, order}
+use Rattle.tree.specs.Words.{position, successor, first, last, family, order}
 
 module _ {E : Type 0} (S : Shape E) where
   abbrev pub Sound : E → Type 0
@@ -50,13 +51,6 @@ module _ {E : Type 0} (S : Shape E) where
     pub same-refl : (e : E) → S .same e e ≡ true
     pub same-eq : (e f : E) → S .same e f ≡ true → e ≡ f
 
-  pub record RoundTrips : Type 0 where
-    pub at-sound : (l p : ℕ) → l ≤ S .highest → p < S .children ^ l → Sound (elementAt S l p)
-    pub at-level : (l p : ℕ) → S .level (elementAt S l p) ≡ l
-    pub position-at : (l p : ℕ) → l ≤ S .highest → p < S .children ^ l → position S (elementAt S l p) ≡ p
-    pub position-lt : (e : E) → Sound e → position S e < S .children ^ S .level e
-    pub at-position : (e : E) → Sound e → elementAt S (S .level e) (position S e) ≡ e
-
   -- f is a valid element of level l
   pub record OfLevel (f : E) (l : ℕ) : Type 0 where
     pub sound : Sound f
@@ -67,7 +61,7 @@ module _ {E : Type 0} (S : Shape E) where
     pub of-child : (e : E) (i : ℕ) → Sound e → S .level e < S .highest → i < S .children
         → position S (S .child e i) ≡ S .children * position S e + i
     pub of-successor : (e : E) → Sound e → position S e + 1 < S .children ^ S .level e
-        → position S (successor S e) ≡ position S e + 1
+        → OfLevel (successor S e) (S .level e) × (position S (successor S e) ≡ position S e + 1)
     pub of-first : (e : E) (l : ℕ) → Sound e → S .level e ≤ l → l ≤ S .highest
         → position S (first S e l) ≡ position S e * S .children ^ (l - S .level e)
     pub of-last : (e : E) (l : ℕ) → Sound e → S .level e ≤ l → l ≤ S .highest
