@@ -15,3 +15,4 @@ pub mod Call
 pub mod CallLaws
 pub mod Faces
 pub mod Apart
+pub mod SameMembers
