@@ -5,6 +5,7 @@ use mathlib.Core.Logic.{_⊎_, inl, inr}
 use mathlib.Core.Bool.{false}
 use mathlib.Core.List.{List, [], _∷_}
 use Prim.Native.Nat.{ℕ, _+_, _-_, _*_, _<_}
+use native.Mathlib.Nat.{ℕ-set}
 use native.Mathlib.Decide.{ℕ-discrete}
 use native.Mathlib.Omega.{arith}
 use lib.ListN.{getD}
@@ -13,6 +14,7 @@ use Rattle.tree.specs.Anchors.{side, moved, offEdge}
 use Rattle.tree.proofs.Anchor.{side-pos, grid-lt}
 use Rattle.tree.proofs.Cases.{below-2}
 use Rattle.tree.specs.Laws.{Across, Faces}
+use Rattle.tree.proofs.SameMembers.{Alike, alike, same-list}
 use Rattle.tree.proofs.Faces.{either-way, when-accepted, when-led, move-far, move-reached, move-back, move-grid}
 use Rattle.line.specs.declared.Line.{Line}
 use Rattle.line.specs.Elements.{lineTo, fault, neighbour}
@@ -32,6 +34,9 @@ ends-differ : (L : ℕ) (e : Line) (i : ℕ) → i < 2 → corner L e i ≡ corn
 ends-differ L e =
     let positive = side-pos L (e .level) in
     below-2 (λ (i : ℕ). corner L e i ≡ corner L e (faceAcross i) → ⊥) (λ same. omega arith) (λ same. omega arith)
+
+pub same-points : (L : ℕ) (e f : Line) (i j : ℕ) → Alike (facePoints L e i) (facePoints L f j) → facePoints L e i ≡ facePoints L f j
+same-points L e f i j = same-list ℕ-set (λ (k : ℕ). k) (facePoints L e i) (facePoints L f j) (omega arith) (omega arith)
 
 -- a face has the same number in two lines only where they begin together
 numbered : (x y h i j : ℕ) → i < 2 → j < 2 → x + i * h ≡ y + j * h → (x ≡ y) ⊎ (j ≡ 1 - i)
@@ -68,7 +73,7 @@ module _ (L : ℕ) (e : Line) (i : ℕ) (sound : fault L e ≡ 0) (small : i < 2
               (move-grid L (e .level) (2 * i) (e .x) (sound-grid L (e .level) (e .x) sound) stays);
           level = refl;
           face = omega arith;
-          shared = ap (λ (k : ℕ). k ∷ []) met;
+          shared = alike (ap (λ (k : ℕ). k ∷ []) met);
           other = λ same. ends-differ L e i small (met ∙ ap (λ (g : Line). corner L g (faceAcross i)) (sym same));
         }
 
@@ -80,15 +85,18 @@ module _ (L : ℕ) (e : Line) (i : ℕ) (sound : fault L e ≡ 0) (small : i < 2
 
   reached : (f : Line) (j : ℕ) → Across (lineTo L) (facePoints L) e f i j → (neighbour L e i ≡ accepted f) × (j ≡ faceAcross i)
   unfolding lineTo
-  reached f j a = by (numbered (e .x) (f .x) h i j small (a .face) (shared j (a .shared)))
+  reached f j a = by (numbered (e .x) (f .x) h i j small (a .face) (shared j one))
     where
+      one : facePoints L e i ≡ facePoints L f j
+      one = same-points L e f i j (a .shared)
+
       shared : (k : ℕ) → facePoints L e i ≡ facePoints L f k → e .x + i * h ≡ f .x + k * h
       shared k same = ap (λ (l : List ℕ). getD l 0 0) same ∙ ap (λ (m : ℕ). f .x + k * side L m) (a .level)
 
       by : (e .x ≡ f .x) ⊎ (j ≡ 1 - i) → (neighbour L e i ≡ accepted f) × (j ≡ faceAcross i)
       by (inl begin) = absurd (a .other (line-path e f begin (sym (a .level))))
       by (inr turned) =
-          let far = meets (e .x) (f .x) h i small (shared (1 - i) (a .shared ∙ ap (facePoints L f) turned)) in
+          let far = meets (e .x) (f .x) h i small (shared (1 - i) (one ∙ ap (facePoints L f) turned)) in
           let below = grid-lt L (f .level) (f .x) (sound-grid L (f .level) (f .x) (a .sound)) in
           (leads L e f i (sym (a .level)) (move-reached L h (2 * i) (e .x) (f .x) far below), turned)
 

@@ -8,11 +8,13 @@ use lib.ListN.{getD}
 use Rattle.paper.specs.Outcome.{Outcome, accepted, mapped}
 use Rattle.tree.proofs.Cases.{below-2}
 use Rattle.tree.specs.Laws.{Across}
+use Rattle.tree.proofs.SameMembers.{alike}
 use Rattle.tree.proofs.Faces.{mapped-led}
 use Rattle.line.specs.declared.Line.{Line}
 use Rattle.line.specs.Elements.{lineTo}
 use Rattle.line.proofs.Laws.{line-path}
 use Rattle.line.proofs.Faces.{line-faces}
+use Rattle.line.proofs.Faces as line-same
 use Rattle.triangle.specs.declared.Triangle.{Triangle}
 use Rattle.triangle.proofs.FacePoints.{triangle-told}
 use Rattle.line.specs.Elements as line
@@ -22,6 +24,7 @@ use Rattle.prism.specs.declared.Prism.{Prism}
 use Rattle.prism.specs.Elements.{prismTo, fault, neighbour, plan, upright, product}
 use Rattle.prism.specs.Points.{Corner, lifted, facePoints, faceAcross}
 use Rattle.prism.proofs.Laws.{grids, triangle-sound, line-sound, joined-sound}
+use Rattle.prism.proofs.SamePoints.{same-points}
 use Rattle.prism.proofs.Around.{plans, height}
 
 -- a triangle at one height
@@ -52,14 +55,16 @@ module _ (L : ℕ) where
       unfolding prismTo lineTo
       along-across =
           let there = product (plan e) m in
+          let one = line-same.same-points L (upright e) m i (1 - i) (a .shared) in
           record {
             sound = joined-sound L there (triangle-sound L e sound) (subst⁻¹ (λ (n : Line). line.fault L n ≡ 0) line-there (a .sound));
             level = refl;
             face = omega (arith, along-opposite i small);
             shared =
-                along-points e i small
-                ∙ ap (cap L (plan e)) (ap (λ (l : List ℕ). getD l 0 0) (a .shared) ∙ ap (λ (n : Line). line-points.corner L n (1 - i)) (sym line-there))
-                ∙ sym (ap (facePoints L there) (along-opposite i small) ∙ along-points there (1 - i) (omega arith));
+                alike
+                (along-points e i small
+                ∙ ap (cap L (plan e)) (ap (λ (l : List ℕ). getD l 0 0) one ∙ ap (λ (n : Line). line-points.corner L n (1 - i)) (sym line-there))
+                ∙ sym (ap (facePoints L there) (along-opposite i small) ∙ along-points there (1 - i) (omega arith)));
             other = λ same. a .other (ap upright same ∙ line-there);
           }
 
@@ -73,7 +78,8 @@ module _ (L : ℕ) where
     -- whoever has the face has the same triangle, and its line has the line's face
     module _ (f : Prism) (j : ℕ) (face : j < 2) (a : Across (prismTo L) (facePoints L) e f (3 + i) (3 + j)) where
       cap-shared : cap L (plan e) (line-points.corner L (upright e) i) ≡ cap L (plan f) (line-points.corner L (upright f) j)
-      cap-shared = sym (along-points e i small) ∙ a .shared ∙ along-points f j face
+      cap-shared =
+          sym (along-points e i small) ∙ same-points L e f (3 + i) (3 + j) (omega arith) (omega arith) (a .shared) ∙ along-points f j face
 
       along-triangle : plan e ≡ plan f
       unfolding prismTo
@@ -87,7 +93,7 @@ module _ (L : ℕ) where
             sound = line-sound L f (a .sound);
             level = a .level;
             face = face;
-            shared = ap (λ (cs : List Corner). height cs ∷ []) cap-shared;
+            shared = alike (ap (λ (cs : List Corner). height cs ∷ []) cap-shared);
             other = λ same. a .other (ap₂ product along-triangle same);
           }
 

@@ -8,12 +8,14 @@ use lib.ListN.{getD}
 use Rattle.paper.specs.Outcome.{Outcome, accepted, mapped}
 use Rattle.tree.proofs.Cases.{below-3}
 use Rattle.tree.specs.Laws.{Across}
+use Rattle.tree.proofs.SameMembers.{alike}
 use Rattle.tree.proofs.Faces.{mapped-led}
 use Rattle.line.specs.declared.Line.{Line}
 use Rattle.line.proofs.Laws.{line-path}
 use Rattle.triangle.specs.declared.Triangle.{Triangle}
 use Rattle.triangle.specs.Elements.{triangleTo}
 use Rattle.triangle.specs.Points.{Point, point}
+use Rattle.triangle.proofs.SamePoints as triangle-same
 use Rattle.triangle.proofs.Faces.{triangle-faces}
 use Rattle.line.specs.Elements as line
 use Rattle.line.specs.Points as line-points
@@ -23,6 +25,7 @@ use Rattle.prism.specs.declared.Prism.{Prism}
 use Rattle.prism.specs.Elements.{prismTo, fault, neighbour, plan, upright, product}
 use Rattle.prism.specs.Points.{Corner, lifted, facePoints, faceAcross}
 use Rattle.prism.proofs.Laws.{triangle-sound, line-sound, joined-sound}
+use Rattle.prism.proofs.SamePoints.{same-points}
 
 -- ---- the corner points
 -- points of the ground plan at both ends of a line
@@ -79,9 +82,10 @@ module _ (L : ℕ) where
             level = a .level;
             face = omega (arith, around-opposite i small);
             shared =
-                around-points e i small
-                ∙ ap₂ (walls L) (sym line-kept) (a .shared)
-                ∙ sym (ap (facePoints L there) (around-opposite i small) ∙ around-points there (2 - i) (omega arith));
+                alike
+                (around-points e i small
+                ∙ ap₂ (walls L) (sym line-kept) (triangle-same.same-points L (plan e) t i (2 - i) (a .shared))
+                ∙ sym (ap (facePoints L there) (around-opposite i small) ∙ around-points there (2 - i) (omega arith)));
             other = λ same. a .other (ap plan same);
           }
 
@@ -94,7 +98,8 @@ module _ (L : ℕ) where
     -- whoever has the face has the same line, and its triangle has the triangle's face
     module _ (f : Prism) (j : ℕ) (face : j < 3) (a : Across (prismTo L) (facePoints L) e f i j) where
       walls-shared : walls L (upright e) (triangle-points.facePoints L (plan e) i) ≡ walls L (upright f) (triangle-points.facePoints L (plan f) j)
-      walls-shared = sym (around-points e i small) ∙ a .shared ∙ around-points f j face
+      walls-shared =
+          sym (around-points e i small) ∙ same-points L e f i j (omega arith) (omega arith) (a .shared) ∙ around-points f j face
 
       around-line : upright e ≡ upright f
       unfolding prismTo
@@ -110,7 +115,7 @@ module _ (L : ℕ) where
             sound = triangle-sound L f (a .sound);
             level = a .level;
             face = face;
-            shared = sym (plans-back L (upright e) (plan e) i) ∙ ap plans walls-shared ∙ plans-back L (upright f) (plan f) j;
+            shared = alike (sym (plans-back L (upright e) (plan e) i) ∙ ap plans walls-shared ∙ plans-back L (upright f) (plan f) j);
             other = λ same. a .other (ap₂ product same around-line);
           }
 

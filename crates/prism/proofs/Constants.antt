@@ -20,7 +20,7 @@ use Rattle.prism.specs.Elements.{prismTo, plan}
 use Rattle.prism.specs.Points.{Corner, lifted, corner, corners, facePoints, faces}
 
 -- x + y + 3z
-abbrev along : Corner → ℕ
+abbrev pub along : Corner → ℕ
 along c = triangle-counted.along (c .plan) + 3 * c .height
 
 -- of the second and the third together

@@ -25,6 +25,7 @@ use Rattle.prism.specs.declared.Prism.{Prism}
 use Rattle.prism.specs.Elements.{prismTo, fault, neighbour, plan, upright, product}
 use Rattle.prism.specs.Points.{facePoints, faceAcross}
 use Rattle.prism.proofs.Laws.{triangle-sound, line-sound}
+use Rattle.prism.proofs.SamePoints.{same-points}
 use Rattle.prism.proofs.Around.{around, neighbour-around, around-across, around-back, around-only}
 use Rattle.prism.proofs.Along.{along, neighbour-along, along-across, along-back, along-only}
 
@@ -86,17 +87,21 @@ module _ (L : ℕ) where
     abbrev Only : Prism → ℕ → ℕ → Type 0
     Only f i j = Across (prismTo L) (facePoints L) e f i j → (neighbour L e i ≡ accepted f) × (j ≡ faceAcross i)
 
+    -- a shared face has as many points
+    long : (f : Prism) (i j : ℕ) → i < 5 → j < 5 → Across (prismTo L) (facePoints L) e f i j → length (facePoints L e i) ≡ length (facePoints L f j)
+    long f i j small face a = ap length (same-points L e f i j small face (a .shared))
+
     only : (f : Prism) (i j : ℕ) → i < 5 → j < 5 → Only f i j
     only f i j small face =
         each (λ (k : ℕ). Only f k j)
         (λ k low.
         each (Only f k)
         (λ n less. around-only L e k sound low f n less)
-        (λ n less a. absurd (omega (arith, four e k low, three f n less, ap length (a .shared))))
+        (λ n less a. absurd (omega (arith, four e k low, three f n less, long f k (3 + n) (omega arith) (omega arith) a)))
         j face)
         (λ k low.
         each (Only f (3 + k))
-        (λ n less a. absurd (omega (arith, three e k low, four f n less, ap length (a .shared))))
+        (λ n less a. absurd (omega (arith, three e k low, four f n less, long f (3 + k) n (omega arith) (omega arith) a)))
         (λ n less. along-only L e k sound low f n less)
         j face)
         i small

@@ -2,6 +2,7 @@ pub mod Laws
 pub mod Parts
 pub mod Loops
 pub mod Across
+pub mod SamePoints
 pub mod Around
 pub mod Along
 pub mod Faces

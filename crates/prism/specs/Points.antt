@@ -10,12 +10,12 @@
 --   faceAcross i       the number of that face as the neighbour has it
 --   InRoot L c         the point c lies in the root: its ground plan in the root of triangles, and its height at most 2^L
 --   OnGrid L e         e passes the checks 1, 2 and 3: its triangle does, and z is below 2^L and a multiple of the side
---   Refusal4 L         an element on the grid passes the last check, and so is sound, exactly when all its corners lie in the root; and
---                      every sound element is on the grid
+--   Refusal4 L         4 means on the grid with a corner outside the root: an element is on the grid exactly when its fault is none or 4,
+--                      and one on the grid has none, and so is sound, exactly when all its corners lie in the root
 --
 -- Assumes nothing.
 use mathlib.Core.Path.{_≡_}
-use mathlib.Core.Logic.{_↔_}
+use mathlib.Core.Logic.{_↔_, _⊎_}
 use mathlib.Core.Bool.{cond}
 use mathlib.Core.List.{List, [], _∷_, _++_, map}
 use Prim.Native.Nat.{ℕ, _+_, _-_, _%_, _/_, _^_, _≤_, _<_}
@@ -77,5 +77,5 @@ pub record OnGrid (L : ℕ) (e : Prism) : Type 0 where
   pub z-multiple : e .z % side L (e .level) ≡ 0
 
 pub record Refusal4 (L : ℕ) : Type 0 where
-  pub on-grid : (e : Prism) → Sound (prismTo L) e → OnGrid L e
+  pub on-grid : (e : Prism) → OnGrid L e ↔ ((prismTo L .fault e ≡ 0) ⊎ (prismTo L .fault e ≡ 4))
   pub inside : (e : Prism) → OnGrid L e → Sound (prismTo L) e ↔ ((i : ℕ) → i < CORNERS → InRoot L (corner L e i))

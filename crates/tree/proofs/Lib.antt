@@ -16,3 +16,4 @@ pub mod Accepting
 pub mod CallLaws
 pub mod Faces
 pub mod Apart
+pub mod SameMembers

@@ -8,11 +8,10 @@
 --   Positions      the positions of parent, child, successor, first and last descendant; the successor is sound and of "same level" (of the others
 --                  `Lawful` and `Descendants` say it)
 --   TotalOrder     the order of two is a total order
---   Across e f i j   face i of e is face j of the other element f
---   Faces          a face neighbour lies across: it is another valid element of the level and shares that whole face; whoever has the face
---                  as one of its own is the neighbour, so refused 10 means that nobody does; its neighbour across its own face is the
---                  element again. `points` gives the corner points of a face, `faceAcross` its number as the neighbour has it. The points
---                  stand in the order of the corners, first by z and at one z by x + y, which rises: faces with the same points have one list
+--   Across e f i j   face i of e is face j of the other element f: they have the same corner points
+--   Faces          a face neighbour lies across: it is another valid element of the level and shares that whole face; whoever of its level
+--                  has the face as one of its own is the neighbour, so refused 10 means that nobody of that level does; its neighbour across
+--                  its own face is the element again. `points` gives the corner points of a face, `faceAcross` its number as the neighbour has it
 --   Families       family is yes exactly for the children of one parent, in order
 --   Constants      CORNERS and FACES count the paper's own lists: the corners that it lists are those with a number below CORNERS, all
 --                  different, and so with the faces
@@ -21,7 +20,7 @@
 use mathlib.Core.Path.{_≡_}
 use mathlib.Core.Logic.{_↔_, _⊎_}
 use mathlib.Core.Bool.{true}
-use mathlib.Core.List.{List, List·Memᴰ, List·Nodup}
+use mathlib.Core.List.{List, List·Mem, List·Memᴰ, List·Nodup}
 use Prim.Native.Nat.{ℕ, suc, _+_, _-_, _*_, _/_, _^_, _≤_, _<_}
 use Rattle.paper.specs.Outcome.{accepted, refused, less, same, greater, rows}
 use Rattle.tree.specs.Shape.{Shape}
@@ -84,7 +83,7 @@ module _ {E : Type 0} (S : Shape E) where
       pub sound : Sound f
       pub level : S .level f ≡ S .level e
       pub face : j < S .faces
-      pub shared : points e i ≡ points f j
+      pub shared : (p : P) → List·Mem p (points e i) ↔ List·Mem p (points f j)
       pub other : e ≡ f → ⊥
 
     pub record Faces (faceAcross : ℕ → ℕ) : Type 0 where

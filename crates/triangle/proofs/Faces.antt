@@ -12,6 +12,7 @@ use Rattle.paper.proofs.Tests.{or-none}
 use Rattle.tree.specs.Anchors.{side, moved, offEdge}
 use Rattle.tree.proofs.Anchor.{side-pos, grid-lt}
 use Rattle.tree.specs.Laws.{Across, Faces}
+use Rattle.tree.proofs.SameMembers.{alike}
 use Rattle.tree.proofs.Faces.{either-way, when-accepted, when-led, move-far, move-reached, move-back, move-grid}
 use Rattle.rows.specs.declared.Step.{Step}
 use Rattle.triangle.specs.declared.Triangle.{Triangle}
@@ -21,6 +22,7 @@ use Rattle.triangle.specs.Points.{facePoints, faceAcross}
 use Rattle.rows.proofs.Tables.{each-face, faceRow-small}
 use Rattle.triangle.proofs.Laws.{Known, known, sound, triangle-path}
 use Rattle.triangle.proofs.FacePoints.{Agree, agree, meeting, meets, itself, slope, sloping, numbered}
+use Rattle.triangle.proofs.SamePoints.{same-points}
 
 -- ---- the face rows
 -- turned round
@@ -96,9 +98,10 @@ module _ (L : ℕ) (e : Triangle) (i : ℕ) (k : Known L e) (small : i < 3) wher
           level = refl;
           face = omega arith;
           shared =
-              meeting L (e .level) (e .x) (e .y) (to .x) (to .y) (e .kind) i (k .typed) small
+              alike
+              (meeting L (e .level) (e .x) (e .y) (to .x) (to .y) (e .kind) i (k .typed) small
               (move-far L width (row .x) (e .x) stays-x)
-              (move-far L width (row .y) (e .y) (rest .0));
+              (move-far L width (row .y) (e .y) (rest .0)));
           other = λ same. omega (arith, ap (λ (g : Triangle). g .kind) same, other-type (e .kind) i (k .typed) small);
         }
 
@@ -119,7 +122,7 @@ module _ (L : ℕ) (e : Triangle) (i : ℕ) (k : Known L e) (small : i < 3) wher
 
       agreed : (t n : ℕ) → f .kind ≡ t → j ≡ n → Agree (facePoints L e i) (facePoints L (record { x = f .x; y = f .y; level = e .level; kind = t }) n)
       agreed t n same number =
-          agree _ _ (a .shared ∙ ap₂ (facePoints L) (triangle-path f _ refl refl (a .level) same) number)
+          agree _ _ (same-points L e f i j (a .shared) ∙ ap₂ (facePoints L) (triangle-path f _ refl refl (a .level) same) number)
 
       same-slope : slope (e .kind) i ≡ slope (f .kind) j
       same-slope =

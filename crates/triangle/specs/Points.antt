@@ -9,12 +9,12 @@
 --   faceAcross i       the number of that face as the neighbour has it
 --   InRoot L p         the point p lies in the root, the triangle (0,0), (2^L,0), (2^L,2^L): y <= x <= 2^L
 --   OnGrid L e         e passes the checks 1, 2 and 3: level at most L, x and y below 2^L and multiples of the side, type 0 or 1
---   Refusal4 L         an element on the grid passes the last check, and so is sound, exactly when all its corners lie in the root; and
---                      every sound element is on the grid
+--   Refusal4 L         4 means on the grid with a corner outside the root: an element is on the grid exactly when its fault is none or 4,
+--                      and one on the grid has none, and so is sound, exactly when all its corners lie in the root
 --
 -- Not here: that the children are Bey's (`index/specs/Bey.antt`). Assumes nothing.
 use mathlib.Core.Path.{_≡_}
-use mathlib.Core.Logic.{_↔_}
+use mathlib.Core.Logic.{_↔_, _⊎_}
 use mathlib.Core.List.{List, [], _∷_}
 use Prim.Native.Nat.{ℕ, zero, suc, _+_, _-_, _%_, _^_, _≤_, _<_}
 use lib.ListN.{getD}
@@ -69,5 +69,5 @@ pub record OnGrid (L : ℕ) (e : Triangle) : Type 0 where
   pub typed : e .kind ≤ 1
 
 pub record Refusal4 (L : ℕ) : Type 0 where
-  pub on-grid : (e : Triangle) → Sound (triangleTo L) e → OnGrid L e
+  pub on-grid : (e : Triangle) → OnGrid L e ↔ ((triangleTo L .fault e ≡ 0) ⊎ (triangleTo L .fault e ≡ 4))
   pub inside : (e : Triangle) → OnGrid L e → Sound (triangleTo L) e ↔ ((i : ℕ) → i < CORNERS → InRoot L (corner L e i))
