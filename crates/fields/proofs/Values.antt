@@ -7,7 +7,7 @@ use native.Mathlib.Nat.{add-zero, pow-le-pow-right}
 use native.Mathlib.Omega.{arith}
 use lib.Dec.{leb}
 use lib.ListN.{length}
-use borrow.Author.Tests.{leb-true, not-true}
+use borrow.Author.Tests.{leb-true, le-leb, not-true}
 use Rattle.fields.specs.Fields.{isDigit, allDigits, leadingZero, isNumber, valueFrom, value}
 use Rattle.fields.proofs.Numbers.{digit-below}
 
@@ -41,6 +41,9 @@ number-parts f is =
       plain = not-true (leadingZero f) (rest .0);
       digits = rest .1;
     }
+
+pub parts-number : (f : List ℕ) → IsNumber f → isNumber f ≡ true
+parts-number f is = simp (le-leb 1 (length f) (is .some), le-leb (length f) 9 (is .short), is .plain, is .digits)
 
 -- ---- one after the other
 pub value-append : (f g : List ℕ) (n : ℕ) → valueFrom n (f ++ g) ≡ valueFrom (valueFrom n f) g

@@ -2,8 +2,8 @@
 -- Field four or six out of range is 17, field five above 21 is 1, too many leaves is 15 at field 7." Definitions only.
 --
 --   seventh f         "Field seven may be empty and then means 2"
---   given fs i        what stands in field i, counted from 1, an empty field seven as what it means; a missing field reads like an empty one
---                     (`fault` looks for that first)
+--   asMeant i f       the field f, where it stands as field i: an empty field seven as what it means, every other field as it is
+--   given fs i        what stands in field i, counted from 1, as meant; a missing field reads like an empty one (`fault` looks for that first)
 --   numberIn fs i     the number in field i
 --   outside i v K L   the refusal of the number v in field i, 0 where there is none; K and L are the numbers of fields four and five
 --   numberFault       23 where a field is missing or is no number, else what else it has

@@ -1,22 +1,40 @@
 -- All that is promised of the order program. Assumes nothing.
-use mathlib.Core.Path.{ap}
+use mathlib.Core.Path.{_≡_, refl, ap, subst}
+use mathlib.Core.List.{List}
 use Prim.Native.Nat.{ℕ, _*_, _^_, _≤_, _<_}
 use native.Mathlib.Nat.{one-le-mul, one-le-pow}
 use native.Mathlib.Omega.{arith}
+use Rattle.paper.specs.Outcome.{accepted}
 use Rattle.forms.specs.declared.Form.{Form}
-use Rattle.forms.specs.Forms.{read}
+use Rattle.forms.specs.Forms.{given, numberIn, read}
 use Rattle.forms.proofs.Bounds.{Orderly, form-clean, form-is, form-orderly}
 use Rattle.forms.proofs.Enough.{read-first}
 use Rattle.fields.specs.Fields.{fields}
-use Rattle.text.specs.Text.{printed}
+use Rattle.text.specs.Text.{decimal, printed}
 use Rattle.text.proofs.Room.{boundary-few, printed-few}
 use Rattle.text.proofs.Repeating.{field-repeated}
-use Rattle.text.proofs.ReadingBack.{decimal-value-back, decimal-digits, decimal-plain}
-use Rattle.orders.specs.Laws.{ReadsBack, Small, Promised}
+use Rattle.text.proofs.ReadingBack.{decimal-number, decimal-value-back}
+use Rattle.orders.specs.Laws.{Repeats, ReadsBack, Small, Promised}
 use Rattle.orders.proofs.SameShares.{form-same-shares}
 
-reads-back : (n : ℕ) → n < 10 ^ 20 → ReadsBack n
-reads-back n below = record { number = decimal-value-back n below; digits = decimal-digits n; plain = decimal-plain n below }
+form-repeats : (s : List ℕ) (f : Form) → read s ≡ accepted f → Repeats s f
+form-repeats s f is =
+    subst (Repeats s) (form-is s f is)
+    (record {
+      order = field 1 (omega arith) (omega arith);
+      site = field 2 (omega arith) (omega arith);
+      model = field 3 (omega arith) (omega arith);
+      roots = field 4 (omega arith) (omega arith);
+      level = field 7 (omega arith) (omega arith);
+      leaves = refl;
+      shares = field 6 (omega arith) (omega arith);
+    })
+  where
+    field : (i : ℕ) → 1 ≤ i → i < 8 → decimal (numberIn (fields s) i) ≡ given (fields s) i
+    field i low high = field-repeated (fields s) i (form-clean s f is i low high)
+
+reads-back : (n : ℕ) → n < 10 ^ 9 → ReadsBack n
+reads-back n below = record { number = decimal-number n below; says = decimal-value-back n below }
 
 form-small : (f : Form) → Orderly f → Small f
 form-small f sound =
@@ -39,8 +57,7 @@ pub promised : Promised
 promised =
     record {
       first-bytes = λ s. ap printed (read-first s);
-      ordered = form-is;
-      repeats = λ s f i is low high. field-repeated (fields s) i high (form-clean s f is i low (omega arith));
+      repeats = form-repeats;
       same-shares = λ s f is. form-same-shares f (form-orderly s f is);
       room = λ s. printed-few (read s) (form-orderly s);
       reads-back = reads-back;

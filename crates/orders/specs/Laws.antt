@@ -1,19 +1,25 @@
 -- What is promised of the order program, as statements. Definitions only.
 --
+--   started f      the uniform start that is ordered
 --   SameShares f   `printed` prints the boundaries of all weights 1; on the columns of the uniform start, with these weights and a column
 --                  that is long enough, the list's own call for shares accepts with the same boundaries; they are the thesis's formula 27
---   ReadsBack n    the decimal of n is digits without a leading zero, except 0 itself, and says n
+--   Repeats s f    "The first line repeats fields 1, 2, 3 and 4, then level used, leaf count, field 6": each of these numbers of the
+--                  form f, printed, is its field of the input s, byte for byte (an empty field seven as what it means); the leaf count is the
+--                  roots times 8^level
+--   ReadsBack n    the decimal of n is a number by the paper's rule for a field ("1 to 9 digits without a leading zero, except 0 itself"),
+--                  and says n
 --   Small f        the numbers of the form f: each in its range, and no boundary past the last leaf
---   Promised       the first 71 bytes decide the output; an accepted order has the numbers of its fields, and those printed are the fields
---                  themselves, byte for byte; its shares are the list's; no output is longer than 86,212 bytes; each number below 10^20 reads
---                  back, and all that an accepted order prints are small (a refusal's number and field: `promises/specs/Demand1.antt`)
+--   Promised       the first 71 bytes decide the output; an accepted order repeats its fields; its shares are the list's; no output is longer
+--                  than 86,212 bytes; each number below 10^9 reads back, and all that an accepted order prints are small
 --
+-- The numbers printed: those of the first line, a share's number (below `shares`), its first leaf and its number of leaves (a boundary, a
+-- difference of two); of a refusal its number and its field (how large these are: `promises/specs/Demand1.antt`).
 -- Assumes nothing.
 use mathlib.Core.Path.{_≡_}
-use mathlib.Core.Bool.{true, false}
-use mathlib.Core.List.{List, []}
-use Prim.Native.Nat.{ℕ, _+_, _-_, _*_, _/_, _^_, _≤_, _<_}
-use lib.ListN.{length, getD, take}
+use mathlib.Core.Bool.{true}
+use mathlib.Core.List.{List}
+use Prim.Native.Nat.{ℕ, _+_, _*_, _/_, _^_, _≤_, _<_}
+use lib.ListN.{length, take}
 use Rattle.paper.specs.Outcome.{accepted}
 use Rattle.tree.specs.Anchors.{HIGHEST}
 use Rattle.leaves.specs.Leaves.{CHILDREN, Leaf, uniformList, columnsOf}
@@ -21,12 +27,11 @@ use Rattle.leaves.specs.Calls.{limit, most}
 use Rattle.shares.specs.Shares.{boundary, boundaries}
 use Rattle.shares.specs.Calls.{shares}
 use Rattle.forms.specs.declared.Form.{Form}
-use Rattle.fields.specs.Fields.{fields, allDigits, leadingZero, value}
-use Rattle.forms.specs.Forms.{numberIn, formIn, read, longestInput}
+use Rattle.fields.specs.Fields.{fields, isNumber, value}
+use Rattle.forms.specs.Forms.{given, read, longestInput}
 use Rattle.text.specs.Text.{decimal, weights, longestOutput}
 use Rattle.orders.specs.Calls.{output}
 
--- the uniform start that is ordered
 abbrev pub started : Form → List Leaf
 started f = uniformList CHILDREN HIGHEST (f .roots) (f .level)
 
@@ -36,10 +41,18 @@ pub record SameShares (f : Form) : Type 0 where
       → shares CHILDREN HIGHEST (f .roots) (f .shares) (columnsOf (started f)) (weights f) column ≡ accepted (boundaries (f .shares) (weights f))
   pub formula-27 : (s : ℕ) → s ≤ f .shares → boundary (f .shares) (weights f) s ≡ s * f .leaves / f .shares
 
+pub record Repeats (s : List ℕ) (f : Form) : Type 0 where
+  pub order : decimal (f .order) ≡ given (fields s) 1
+  pub site : decimal (f .site) ≡ given (fields s) 2
+  pub model : decimal (f .model) ≡ given (fields s) 3
+  pub roots : decimal (f .roots) ≡ given (fields s) 4
+  pub level : decimal (f .level) ≡ given (fields s) 7
+  pub leaves : f .leaves ≡ f .roots * CHILDREN ^ f .level
+  pub shares : decimal (f .shares) ≡ given (fields s) 6
+
 pub record ReadsBack (n : ℕ) : Type 0 where
-  pub number : value (decimal n) ≡ n
-  pub digits : allDigits (decimal n) ≡ true
-  pub plain : leadingZero (decimal n) ≡ false
+  pub number : isNumber (decimal n) ≡ true
+  pub says : value (decimal n) ≡ n
 
 pub record Small (f : Form) : Type 0 where
   pub order : f .order < 10 ^ 9
@@ -56,10 +69,8 @@ pub record Small (f : Form) : Type 0 where
 
 pub record Promised : Type 0 where
   pub first-bytes : (s : List ℕ) → output (take longestInput s) ≡ output s
-  pub ordered : (s : List ℕ) (f : Form) → read s ≡ accepted f → formIn (fields s) ≡ f
-  pub repeats : (s : List ℕ) (f : Form) (i : ℕ) → read s ≡ accepted f → 1 ≤ i → i ≤ 6
-      → decimal (numberIn (fields s) i) ≡ getD (fields s) (i - 1) []
+  pub repeats : (s : List ℕ) (f : Form) → read s ≡ accepted f → Repeats s f
   pub same-shares : (s : List ℕ) (f : Form) → read s ≡ accepted f → SameShares f
   pub room : (s : List ℕ) → length (output s) ≤ longestOutput
-  pub reads-back : (n : ℕ) → n < 10 ^ 20 → ReadsBack n
+  pub reads-back : (n : ℕ) → n < 10 ^ 9 → ReadsBack n
   pub small : (s : List ℕ) (f : Form) → read s ≡ accepted f → Small f

@@ -3,16 +3,16 @@
 use mathlib.Core.Path.{_≡_, refl, ap, _∙_, sym, subst⁻¹}
 use mathlib.Core.Bool.{Bool, true, false}
 use mathlib.Core.List.{List, [], _∷_, _++_}
-use Prim.Native.Nat.{ℕ, zero, suc, _+_, _-_, _*_, _/_, _%_, _^_, _≤_, _<_}
+use Prim.Native.Nat.{ℕ, zero, suc, _+_, _*_, _/_, _%_, _^_, _≤_, _<_}
 use native.Mathlib.Omega.{arith}
 use lib.Dec.{ltb}
 use lib.ListN.{length, getD, length-append, List·getD-append}
 use borrow.Author.Tests.{ltb-true, ltb-false, le-leb}
-use Rattle.fields.specs.Fields.{allDigits, leadingZero, valueFrom, value}
+use Rattle.fields.specs.Fields.{allDigits, isNumber, valueFrom, value}
 use Rattle.fields.proofs.Numbers.{zero-other}
-use Rattle.fields.proofs.Values.{value-append, digits-append}
+use Rattle.fields.proofs.Values.{parts-number, value-append, digits-append}
 use Rattle.text.specs.Text.{decimalIn, decimal}
-use Rattle.text.proofs.Decimals.{tenth, digits-small, digits-more, two-digits, decimal-small}
+use Rattle.text.proofs.Decimals.{tenth, digits-small, digits-more, two-digits, decimal-small, decimal-few}
 
 -- a number by its digits: one, or more
 by-digits : {C : Type 0} (n : ℕ) → (n < 10 → C) → (10 ≤ n → C) → C
@@ -75,12 +75,19 @@ opens (suc k) n some below =
           no-zero = λ is. first .no-zero (sym (List·getD-append f g 0 0 some) ∙ is);
         }
 
-pub decimal-value-back : (n : ℕ) → n < 10 ^ 20 → value (decimal n) ≡ n
-decimal-value-back n below = value-back 20 n (omega arith) below
+-- ---- a number below 10^9
+pub decimal-number : (n : ℕ) → n < 10 ^ 9 → isNumber (decimal n) ≡ true
+unfolding allDigits
+decimal-number zero below = ap isNumber (decimal-small 0 (omega arith))
+decimal-number (suc m) below =
+    let first = opens 20 (suc m) (omega arith) (omega arith) in
+    parts-number (decimal (suc m))
+    (record {
+      some = first .some;
+      short = decimal-few 9 (suc m) (omega arith) below;
+      plain = zero-other (decimal (suc m)) (first .no-zero);
+      digits = all-digits 20 (suc m);
+    })
 
-pub decimal-digits : (n : ℕ) → allDigits (decimal n) ≡ true
-decimal-digits n = all-digits 20 n
-
-pub decimal-plain : (n : ℕ) → n < 10 ^ 20 → leadingZero (decimal n) ≡ false
-decimal-plain zero below = ap leadingZero (decimal-small 0 (omega arith))
-decimal-plain (suc m) below = zero-other (decimal (suc m)) (opens 20 (suc m) (omega arith) below .no-zero)
+pub decimal-value-back : (n : ℕ) → n < 10 ^ 9 → value (decimal n) ≡ n
+decimal-value-back n below = value-back 20 n (omega arith) (omega arith)

@@ -7,11 +7,10 @@ use Prim.Native.Nat.{ℕ, suc, _+_, _-_, _*_, _/_, _%_, _^_, _≤_, _<_}
 use native.Mathlib.Nat.{pow-le-pow-right}
 use native.Mathlib.Omega.{arith}
 use lib.Dec.{eqb}
-use lib.ListN.{length, getD}
+use lib.ListN.{length}
 use borrow.Author.Tests.{eqb-true, eqb-false, eq-eqb, not-false}
 use Rattle.fields.specs.Fields.{allDigits, leadingZero, isNumber, valueFrom, value}
 use Rattle.forms.specs.Forms.{given, numberIn, fault}
-use Rattle.forms.proofs.Meaning.{given-other}
 use Rattle.forms.proofs.Bounds.{in-field}
 use Rattle.text.specs.Text.{decimal}
 use Rattle.fields.proofs.Numbers.{digit-below}
@@ -74,6 +73,5 @@ decimal-value (b ∷ f) is =
     first-digit b f (digits .0) (digits .1) (digits .2) (omega (arith, number .short)) (lone-zero b f (number .plain))
 
 -- ---- the fields that the first line repeats
-pub field-repeated : (fs : List (List ℕ)) (i : ℕ) → i ≤ 6 → fault fs i ≡ 0 → decimal (numberIn fs i) ≡ getD fs (i - 1) []
-field-repeated fs i early none =
-    decimal-value (given fs i) (not-false (isNumber (given fs i)) (in-field fs i none .0)) ∙ given-other i (getD fs (i - 1) []) (λ d. omega (arith, d))
+pub field-repeated : (fs : List (List ℕ)) (i : ℕ) → fault fs i ≡ 0 → decimal (numberIn fs i) ≡ given fs i
+field-repeated fs i none = decimal-value (given fs i) (not-false (isNumber (given fs i)) (in-field fs i none .0))
