@@ -6,3 +6,4 @@ pub mod Demand3
 pub mod Starred
 pub mod Promises
 pub mod Constants
+pub mod Accepts
