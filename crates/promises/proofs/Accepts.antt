@@ -1,43 +1,39 @@
 -- When each call on lists and files accepts: it is a chain of tests, and it accepts exactly when each of them passes. Assumes nothing.
-use mathlib.Core.Path.{_≡_, refl, ap, ap₂, _∙_, sym, subst, subst⁻¹}
+use mathlib.Core.Path.{_≡_, refl, ap, ap₂, _∙_, sym, subst}
 use mathlib.Core.Logic.{_↔_, Iff·trans, Iff·and}
 use mathlib.Core.Bool.{Bool, true, false, not, _&&_, and-eq-true-iff}
-use mathlib.Core.List.{List, [], _∷_}
-use Prim.Native.Nat.{ℕ, suc, _+_, _*_, _^_, _≤_, _<_}
-use native.Mathlib.Decide.{ℕ-discrete}
+use mathlib.Core.List.{List}
+use Prim.Native.Nat.{ℕ, _+_, _*_, _^_, _≤_, _<_}
 use native.Mathlib.Omega.{arith}
 use lib.Dec.{ltb, eqb}
-use lib.ListN.{length, getD}
-use borrow.Author.Tests.{ltb-false, le-ltb, eqb-true, eqb-false, eq-eqb, ne-eqb, not-true, not-false, lt-leb}
-use Rattle.paper.specs.Outcome.{Outcome, accepted, passed, refuse-when-at, scan, and-then}
+use lib.ListN.{length}
+use borrow.Author.Tests.{ltb-false, le-ltb, eqb-true, eq-eqb, ne-eqb, not-true, not-false}
+use Rattle.paper.specs.Outcome.{Outcome, accepted, passed, refuse-when-at, scan}
 use Rattle.paper.specs.Memory.{roomFor}
-use Rattle.paper.proofs.Tests.{passed-by, no-fault}
-use Rattle.paper.proofs.Scan.{accepted-of, scan-accepted, scan-each, fault-none}
+use Rattle.paper.proofs.Tests.{passed-by}
+use Rattle.paper.proofs.Scan.{accepted-of, scan-accepted, scan-passed}
 use Rattle.leaves.specs.Leaves.{Leaf, Columns, leaves, room, equalColumns, uniformList}
 use Rattle.leaves.specs.Calls.{limit, most, outOfRange, listed, uniform}
 use Rattle.leaves.specs.Laws.{ValidList}
 use Rattle.leaves.proofs.Listed.{in-range, columns-sound, listed-passed, listed-accepted, listed-fits, valid-passes}
-use Rattle.leaves.proofs.Columns.{nth-leaves, leaves-length}
 use Rattle.balance.specs.Balance.{isBalanced, Balanced, balanced}
 use Rattle.balance.proofs.Exactly.{exact}
-use Rattle.marks.specs.Marks.{mark, depthFault, marked}
-use Rattle.marks.proofs.Marked.{check-is, marked-passed, marked-accepted, mark-known, refined-above}
-use Rattle.marks.proofs.Checking.{faultless}
+use Rattle.marks.specs.Marks.{marked}
+use Rattle.marks.proofs.Marked.{marked-passed, marked-accepted}
 use Rattle.adaption.specs.Adaption.{adapted}
 use Rattle.adaption.specs.Calls.{adapt}
-use Rattle.adaption.specs.Laws.{Refinable}
+use Rattle.adaption.proofs.Marks.{marks-exactly}
 use Rattle.shares.specs.Shares.{boundaries}
 use Rattle.shares.specs.Calls.{weightFault, shares}
 use Rattle.shares.specs.Laws.{Weighty}
+use Rattle.shares.proofs.Weights.{weights-exactly}
 use Rattle.numbers.specs.Laws.{Bytes}
 use Rattle.format.specs.File.{fileOf}
-use Rattle.format.specs.Reading.{Grid, gridAt}
+use Rattle.format.specs.Reading.{Grid}
 use Rattle.format.specs.Laws.{FileOf}
-use Rattle.format.proofs.Tests.{then-is}
-use Rattle.format.proofs.Taking.{then-accepted}
-use Rattle.format.proofs.OneFile.{one-file}
 use Rattle.writer.specs.Calls.{write}
 use Rattle.reader.specs.Calls.{read}
+use Rattle.gridfile.proofs.Exactly.{read-exactly}
 use Rattle.promises.specs.Accepts.{Lent, Starts, TellsBalance, Adapts, Divides, Saves, Loads, Accepts}
 
 -- ---- what the tests say
@@ -70,13 +66,7 @@ equal-is k m = ((λ h. sym (eqb-true k m h)), λ h. eq-eqb k m (sym h))
 always : true ≡ true ↔ Unit {0}
 always = ((λ h. tt), λ u. refl)
 
-weight-is : (w : ℕ) → weightFault w ≡ 0 ↔ (0 < w)
-weight-is w = ((λ h. above (eqb-false w 0 (no-fault (eqb w 0) 15 0 h .0))), λ some. simp (ne-eqb w 0 (λ none. omega arith)))
-  where
-    above : {m : ℕ} → (m ≡ 0 → ⊥) → 0 < m
-    above {m} none = omega arith
-
--- ---- one test after the other
+-- ---- one test after the other; what they say, each with all that follows
 module _ {A : Type 0} {a : A} where
   after : (t : Bool) (number place : ℕ) {rest : Outcome A} {P Q : Type 0} → (t ≡ false ↔ P) → (rest ≡ accepted a ↔ Q)
       → refuse-when-at t number place rest ≡ accepted a ↔ (P × Q)
@@ -104,21 +94,14 @@ module _ {A : Type 0} {a : A} where
             ap₂ (λ (x y : Bool). listed 8 21 K x y cs rest) (range .1 p) (fits .1 q)
             ∙ listed-passed 8 21 K true true cs rest (valid-passes 8 21 K cs list) ∙ later .1 r
 
-  after-weights : (i : ℕ) (ws : List ℕ) {rest : Outcome A} {Q : Type 0} → (rest ≡ accepted a ↔ Q) → scan weightFault i ws rest ≡ accepted a ↔ (Weighty ws × Q)
-  after-weights i ws {rest} {Q} later = (there, λ (h : Weighty ws × Q). all i ws (h .0) ∙ later .1 (h .1))
-    where
-      there : scan weightFault i ws rest ≡ accepted a → Weighty ws × Q
-      there h =
-          let both = scan-accepted weightFault i ws rest a h in
-          ((λ j below. weight-is (getD ws j 0) .0 (scan-each weightFault i ws 0 j (both .0) below)), later .0 (both .1))
+  after-weights : (ws : List ℕ) {rest : Outcome A} {Q : Type 0} → (rest ≡ accepted a ↔ Q) → scan weightFault 0 ws rest ≡ accepted a ↔ (Weighty ws × Q)
+  after-weights ws {rest} {Q} later = (
+    (λ h. let both = scan-accepted weightFault 0 ws rest a h in (weights-exactly ws .0 (both .0), later .0 (both .1))),
+    (λ (h : Weighty ws × Q). scan-passed weightFault 0 ws rest (weights-exactly ws .1 (h .0)) ∙ later .1 (h .1)),
+  )
 
-      all : (i : ℕ) (ws : List ℕ) → Weighty ws → scan weightFault i ws rest ≡ rest
-      all i [] each = refl
-      all i (w ∷ ws) each =
-          fault-none (weightFault w) i (scan weightFault (suc i) ws rest) (weight-is w .1 (each 0 (omega arith)))
-          ∙ all (suc i) ws (λ j below. each (suc j) (omega arith))
-
-  after-marks : (ls ms : List ℕ) {rest : Outcome A} {Q : Type 0} → (rest ≡ accepted a ↔ Q) → marked 21 ls ms rest ≡ accepted a ↔ ((marked 21 ls ms passed ≡ passed) × Q)
+  after-marks : (ls ms : List ℕ) {rest : Outcome A} {Q : Type 0} → (rest ≡ accepted a ↔ Q)
+      → marked 21 ls ms rest ≡ accepted a ↔ ((marked 21 ls ms passed ≡ passed) × Q)
   after-marks ls ms {rest} {Q} later = (
     (λ h. let both = marked-accepted 21 ls ms rest a h in (both .0, later .0 (both .1))),
     (λ (h : (marked 21 ls ms passed ≡ passed) × Q). marked-passed 21 ls ms rest (h .0) ∙ later .1 (h .1)),
@@ -150,89 +133,6 @@ uniform-is K l m ws = (
         (after (ltb limit (K * 8 ^ l)) 15 0 (at-most limit (K * 8 ^ l))
         (enough-room (K * 8 ^ l) (room m) (uniformList 8 21 K l)))))
 
-shares-is : (K P : ℕ) (cs : Columns) (ws column bs : List ℕ) → shares 8 21 K P cs ws column ≡ accepted bs ↔ Divides K P cs ws column bs
-shares-is K P cs ws column bs = (
-  (λ h.
-      let t = chain .0 h in
-      record {
-        list = t .0;
-        some-share = t .1 .0 .0;
-        few-shares = t .1 .0 .1;
-        weighed = t .1 .1 .0;
-        weighty = t .1 .1 .1 .0;
-        enough = t .1 .1 .1 .1 .0;
-        result = t .1 .1 .1 .1 .1;
-      }),
-  (λ d. chain .1 (d .list, ((d .some-share, d .few-shares), (d .weighed, (d .weighty, (d .enough, d .result)))))),
-)
-  where
-    chain : shares 8 21 K P cs ws column ≡ accepted bs
-        ↔ (ValidList 8 21 K cs × (((0 < P) × (P ≤ most)) × ((length ws ≡ room cs) × (Weighty ws × ((P + 1 ≤ length column) × (bs ≡ boundaries P ws))))))
-    chain =
-        after-list K (not (outOfRange P)) (eqb (room cs) (length ws)) cs (range-of P) (equal-is (room cs) (length ws))
-        (after-weights 0 ws (enough-room (P + 1) (length column) (boundaries P ws)))
-
-marks-are : (cs : Columns) (ms : List ℕ) → length (cs .roots) ≡ length (cs .levels) → length ms ≡ room cs
-    → marked 21 (cs .levels) ms passed ≡ passed ↔ (((i : ℕ) → i < length ms → mark ms i ≤ 2) × Refinable 8 21 (leaves cs) ms)
-marks-are cs ms levels long = (there, back)
-  where
-    there : marked 21 (cs .levels) ms passed ≡ passed → ((i : ℕ) → i < length ms → mark ms i ≤ 2) × Refinable 8 21 (leaves cs) ms
-    there h = (
-      mark-known 21 (cs .levels) ms h,
-      (λ i inside refined. rw (nth-leaves cs i (omega (arith, leaves-length cs))) (refined-above 21 (cs .levels) ms h i (omega (arith, leaves-length cs)) refined)),
-    )
-
-    depth : (i : ℕ) → (mark ms i ≡ 1 → getD (cs .levels) i 0 < 21) → depthFault 21 (cs .levels) ms i ≡ 0
-    depth i above = by (ℕ-discrete (mark ms i) 1)
-      where
-        by : Dec (mark ms i ≡ 1) → depthFault 21 (cs .levels) ms i ≡ 0
-        by (yes refined) = simp (eq-eqb (mark ms i) 1 refined, lt-leb 21 (getD (cs .levels) i 0) (above refined))
-        by (no other) = simp (ne-eqb (mark ms i) 1 other)
-
-    back : ((i : ℕ) → i < length ms → mark ms i ≤ 2) × Refinable 8 21 (leaves cs) ms → marked 21 (cs .levels) ms passed ≡ passed
-    back (known, refinable) =
-        let equal : length (cs .levels) ≡ length ms = sym levels ∙ sym long in
-        sym (check-is 21 (cs .levels) ms equal)
-        ∙ faultless 21 (cs .levels) ms equal (λ none i inside. (
-          simp (le-ltb 2 (mark ms i) (known i inside)),
-          depth i (λ refined. rw (nth-leaves cs i (omega (arith, leaves-length cs))) at (refinable i (omega (arith, leaves-length cs)) refined)),
-        ))
-
-adapt-is : (K : ℕ) (cs : Columns) (ms : List ℕ) (m : Columns) (ws : List Leaf) → adapt 8 21 K cs ms m ≡ accepted ws ↔ Adapts K cs ms m ws
-adapt-is K cs ms m ws = (
-  (λ h.
-      let t = chain .0 h in
-      let fitting = t .1 .1 .0 in
-      let size = t .1 .1 .1 .1 in
-      let marks = marks-are cs ms (t .0 .levels-long) (fitting .0) .0 (t .1 .1 .1 .0) in
-      let long = ap length (size .1 .1) in
-      record {
-        list = t .0;
-        marked = fitting .0;
-        lent = fitting .1;
-        known = marks .0;
-        refinable = marks .1;
-        few = omega (arith, size .0, long);
-        enough = omega (arith, size .1 .0, long);
-        result = size .1 .1;
-      }),
-  (λ s.
-      let marks = marks-are cs ms (s .list .levels-long) (s .marked) .1 (s .known, s .refinable) in
-      let long = ap length (s .result) in
-      chain .1 (s .list, (tt, ((s .marked, s .lent), (marks, (omega (arith, s .few, long), (omega (arith, s .enough, long), s .result))))))),
-)
-  where
-    chain : adapt 8 21 K cs ms m ≡ accepted ws
-        ↔ (ValidList 8 21 K cs × (Unit {0} × (((length ms ≡ room cs) × Lent m) × ((marked 21 (cs .levels) ms passed ≡ passed)
-        × ((length (adapted 8 (leaves cs) ms) ≤ limit) × ((length (adapted 8 (leaves cs) ms) ≤ room m) × (ws ≡ adapted 8 (leaves cs) ms)))))))
-    chain =
-        let new = adapted 8 (leaves cs) ms in
-        after-list K true (eqb (room cs) (length ms) && equalColumns m) cs always
-        (Iff·trans (and-eq-true-iff (eqb (room cs) (length ms)) (equalColumns m)) (Iff·and (equal-is (room cs) (length ms)) (lent-is m)))
-        (after-marks (cs .levels) ms
-        (after (ltb limit (length new)) 15 0 (at-most limit (length new))
-        (enough-room (length new) (room m) new)))
-
 balanced-is : (K : ℕ) (cs : Columns) (b : Bool) → balanced 8 21 K cs ≡ accepted b ↔ TellsBalance K cs b
 balanced-is K cs b = (
   (λ h. let t = chain .0 h in record { list = t .0; result = t .1 .1 .1 }),
@@ -253,6 +153,63 @@ balanced-is K cs b = (
     chain : balanced 8 21 K cs ≡ accepted b ↔ (ValidList 8 21 K cs × (Unit {0} × (Unit {0} × (b ≡ true ↔ Balanced (leaves cs)))))
     chain = after-list K true true cs always always (answer (leaves cs))
 
+adapt-is : (K : ℕ) (cs : Columns) (ms : List ℕ) (m : Columns) (ws : List Leaf) → adapt 8 21 K cs ms m ≡ accepted ws ↔ Adapts K cs ms m ws
+adapt-is K cs ms m ws = (
+  (λ h.
+      let t = chain .0 h in
+      let fitting = t .1 .1 .0 in
+      let size = t .1 .1 .1 .1 in
+      let marks = marks-exactly 8 21 cs ms (t .0 .levels-long) (fitting .0) .0 (t .1 .1 .1 .0) in
+      let long = ap length (size .1 .1) in
+      record {
+        list = t .0;
+        marked = fitting .0;
+        lent = fitting .1;
+        known = marks .0;
+        refinable = marks .1;
+        few = omega (arith, size .0, long);
+        enough = omega (arith, size .1 .0, long);
+        result = size .1 .1;
+      }),
+  (λ s.
+      let marks = marks-exactly 8 21 cs ms (s .list .levels-long) (s .marked) .1 (s .known, s .refinable) in
+      let long = ap length (s .result) in
+      chain .1 (s .list, (tt, ((s .marked, s .lent), (marks, (omega (arith, s .few, long), (omega (arith, s .enough, long), s .result))))))),
+)
+  where
+    chain : adapt 8 21 K cs ms m ≡ accepted ws
+        ↔ (ValidList 8 21 K cs × (Unit {0} × (((length ms ≡ room cs) × Lent m) × ((marked 21 (cs .levels) ms passed ≡ passed)
+        × ((length (adapted 8 (leaves cs) ms) ≤ limit) × ((length (adapted 8 (leaves cs) ms) ≤ room m) × (ws ≡ adapted 8 (leaves cs) ms)))))))
+    chain =
+        let new = adapted 8 (leaves cs) ms in
+        after-list K true (eqb (room cs) (length ms) && equalColumns m) cs always
+        (Iff·trans (and-eq-true-iff (eqb (room cs) (length ms)) (equalColumns m)) (Iff·and (equal-is (room cs) (length ms)) (lent-is m)))
+        (after-marks (cs .levels) ms
+        (after (ltb limit (length new)) 15 0 (at-most limit (length new))
+        (enough-room (length new) (room m) new)))
+
+shares-is : (K P : ℕ) (cs : Columns) (ws column bs : List ℕ) → shares 8 21 K P cs ws column ≡ accepted bs ↔ Divides K P cs ws column bs
+shares-is K P cs ws column bs = (
+  (λ h.
+      let t = chain .0 h in
+      record {
+        list = t .0;
+        some-share = t .1 .0 .0;
+        few-shares = t .1 .0 .1;
+        weighed = t .1 .1 .0;
+        weighty = t .1 .1 .1 .0;
+        enough = t .1 .1 .1 .1 .0;
+        result = t .1 .1 .1 .1 .1;
+      }),
+  (λ d. chain .1 (d .list, ((d .some-share, d .few-shares), (d .weighed, (d .weighty, (d .enough, d .result)))))),
+)
+  where
+    chain : shares 8 21 K P cs ws column ≡ accepted bs
+        ↔ (ValidList 8 21 K cs × (((0 < P) × (P ≤ most)) × ((length ws ≡ room cs) × (Weighty ws × ((P + 1 ≤ length column) × (bs ≡ boundaries P ws))))))
+    chain =
+        after-list K (not (outOfRange P)) (eqb (room cs) (length ws)) cs (range-of P) (equal-is (room cs) (length ws))
+        (after-weights ws (enough-room (P + 1) (length column) (boundaries P ws)))
+
 write-is : (K : ℕ) (cs : Columns) (bytes file : List ℕ) → write 8 21 K cs bytes ≡ accepted file ↔ Saves K cs bytes file
 write-is K cs bytes file = (
   (λ h. let t = chain .0 h in record { list = t .0; enough = omega (arith, t .1 .1 .1 .0, ap length (t .1 .1 .1 .1)); result = t .1 .1 .1 .1 }),
@@ -265,30 +222,12 @@ write-is K cs bytes file = (
 
 read-is : (bytes : List ℕ) (m : Columns) (g : Grid) → Bytes bytes → read 8 21 bytes m ≡ accepted g ↔ Loads bytes m g
 read-is bytes m g all = (
-  (λ h. let t = chain .0 h in record { lent = t .0; enough = t .1 .1; result = t .1 .0 }),
-  (λ s. chain .1 (s .lent, (s .result, s .enough))),
+  (λ h. let t = whole .0 h in record { lent = lent-is m .0 (t .0); enough = t .1 .1; result = t .1 .0 }),
+  (λ s. whole .1 (lent-is m .1 (s .lent), (s .result, s .enough))),
 )
   where
-    laid : Grid → Outcome Grid
-    laid x = roomFor (length (x .leaves)) (room m) x
-
-    grid : and-then (gridAt 8 21 bytes) laid ≡ accepted g ↔ (FileOf 8 21 bytes g × (length (g .leaves) ≤ room m))
-    grid = (there, back)
-      where
-        there : and-then (gridAt 8 21 bytes) laid ≡ accepted g → FileOf 8 21 bytes g × (length (g .leaves) ≤ room m)
-        there h =
-            let found = then-accepted (gridAt 8 21 bytes) laid g h in
-            let held = enough-room (length (found .0 .leaves)) (room m) (found .0) .0 (found .1 .1) in
-            subst⁻¹ (λ (x : Grid). FileOf 8 21 bytes x × (length (x .leaves) ≤ room m)) (held .1)
-            (one-file 8 21 (omega arith) (omega arith) .written-back bytes (found .0) all (found .1 .0), held .0)
-
-        back : FileOf 8 21 bytes g × (length (g .leaves) ≤ room m) → and-then (gridAt 8 21 bytes) laid ≡ accepted g
-        back (file, enough) =
-            then-is (gridAt 8 21 bytes) laid g (one-file 8 21 (omega arith) (omega arith) .read-back bytes g file)
-            ∙ enough-room (length (g .leaves)) (room m) g .1 (enough, refl)
-
-    chain : read 8 21 bytes m ≡ accepted g ↔ (Lent m × (FileOf 8 21 bytes g × (length (g .leaves) ≤ room m)))
-    chain = after (not (equalColumns m)) 11 0 (not-is (equalColumns m) (lent-is m)) grid
+    whole : read 8 21 bytes m ≡ accepted g ↔ ((equalColumns m ≡ true) × (FileOf 8 21 bytes g × (length (g .leaves) ≤ room m)))
+    whole = read-exactly 8 21 (omega arith) (omega arith) bytes m g all
 
 pub accepts : Accepts
 accepts =

@@ -1,18 +1,18 @@
 -- When each call on lists and files accepts, and with what: exactly then, and with that. Definitions only.
 --
 --   Lent m                        the lent columns m are of equal length
---   Starts K l m ws               "Uniform start: K roots, all at one level": 1 to 4,096 roots, columns of equal length, no level above 21, not over
---                                 1,048,576 leaves, and room for them; and ws are the leaves of the uniform list
---   TellsBalance K cs b                  the list in the columns cs is valid for K roots, and b is yes exactly when it is balanced
---   Adapts K cs ms m ws           the list is valid, with one mark a leaf, none above 2 and none 1 on a leaf of level 21; the lent columns m are of
---                                 equal length; and ws is what the leaves give in one pass, not over 1,048,576 leaves, with room for them
---   Divides K P cs ws column bs   the list is valid, with one weight a leaf and none 0; 1 to 4,096 shares; the lent column has room for P+1
---                                 entries; and bs are the boundaries
---   Saves K cs bytes file         the list is valid; file is its file, and the lent bytes have room for it
---   Loads bytes m g               the lent columns m are of equal length; the bytes are a file of the grid g, and there is room for its leaves
---   Accepts                       of each call, that it accepts exactly then, with that
+--   Starts K l m ws               "Uniform start: K roots, all at one level": 1 to 4,096 roots, a level up to 21, not over 1,048,576 leaves, and lent
+--                                 columns of equal length with room for them; and ws are those of `uniformList`
+--   TellsBalance K cs b           the list in the columns cs is valid for K roots, and b is yes exactly when it is balanced
+--   Adapts K cs ms m ws           the list is valid; one mark a leaf, none above 2, none 1 on a leaf of level 21; the lent columns are of equal
+--                                 length; ws is what the leaves give in one pass, not over 1,048,576 leaves, and there is room for it
+--   Divides K P cs ws column bs   the list is valid; 1 to 4,096 shares; one weight a leaf, none 0; the lent column has room for P+1 entries; bs are
+--                                 the boundaries
+--   Saves K cs bytes file         the list is valid; file is its file; the lent bytes have room for it
+--   Loads bytes m g               the lent columns are of equal length; the bytes are a file of the grid g; there is room for its leaves
+--   Accepts                       of each call: it accepts exactly then, and with that
 --
--- What else is so of the results is said of the words in demand 2. Assumes nothing.
+-- Assumes nothing.
 use mathlib.Core.Path.{_≡_}
 use mathlib.Core.Logic.{_↔_}
 use mathlib.Core.Bool.{Bool, true}
