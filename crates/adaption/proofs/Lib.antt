@@ -7,6 +7,7 @@ pub mod Passing
 pub mod Fitting
 pub mod Siblings
 pub mod Readiness
+pub mod Marks
 pub mod Adapting
 pub mod Covering
 pub mod Validity

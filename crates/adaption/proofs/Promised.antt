@@ -1,22 +1,20 @@
 -- All that is promised of adaption. What an accepted adaption gives is a list again: it found a valid list and no leaf to refine at the highest
 -- level. So every list that is reached from a valid one is valid. Assumes nothing.
-use mathlib.Core.Path.{_≡_, subst, subst⁻¹}
-use mathlib.Core.Bool.{true, false, _&&_}
+use mathlib.Core.Path.{_≡_, sym, subst}
+use mathlib.Core.Bool.{true, false, _&&_, and-eq-true-iff}
 use mathlib.Core.List.{List}
 use Prim.Native.Nat.{ℕ, zero, suc, _<_}
-use native.Mathlib.Decide.{decLt}
-use native.Mathlib.Omega.{arith}
 use lib.Dec.{ltb, eqb}
-use lib.ListN.{length, List·getD-eq-default}
-use borrow.Author.Tests.{ltb-false}
+use lib.ListN.{length}
+use borrow.Author.Tests.{ltb-false, eqb-true}
 use Rattle.paper.specs.Outcome.{accepted, passed, refuse-when}
 use Rattle.paper.specs.Memory.{roomFor}
 use Rattle.paper.proofs.Scan.{accepted-of}
-use Rattle.leaves.specs.Leaves.{Leaf, nth, Columns, leaves, columnsOf, equalColumns, room, Valid}
+use Rattle.leaves.specs.Leaves.{Leaf, Columns, leaves, columnsOf, equalColumns, room, Valid}
 use Rattle.leaves.specs.Calls.{limit, listed}
 use Rattle.leaves.specs.Laws.{ValidList}
-use Rattle.leaves.proofs.Listed.{room-gives, columns-sound, listed-accepted}
-use Rattle.leaves.proofs.Columns.{nth-leaves, leaves-length, columns-valid}
+use Rattle.leaves.proofs.Listed.{room-gives, columns-sound, listed-accepted, listed-fits}
+use Rattle.leaves.proofs.Columns.{columns-valid}
 use Rattle.leaves.proofs.Entries.{some-leaf, leaves-of-columns}
 use Rattle.adaption.specs.Adaption.{adapted}
 use Rattle.marks.specs.Marks.{marked}
@@ -24,7 +22,8 @@ use Rattle.adaption.specs.Calls.{adapt}
 use Rattle.adaption.specs.Laws.{OnePass, Refinable, Step, Steps, Promised}
 use Rattle.adaption.proofs.Family.{merging-is, is-merging}
 use Rattle.adaption.proofs.Gives.{gives-refined, gives-merged, gives-younger, gives-kept}
-use Rattle.marks.proofs.Marked.{marked-accepted, refined-above}
+use Rattle.marks.proofs.Marked.{marked-accepted}
+use Rattle.adaption.proofs.Marks.{marks-exactly}
 use Rattle.adaption.proofs.Validity.{adapted-valid}
 use Rattle.adaption.proofs.Keeping.{unmarked-stays, refined-undone}
 
@@ -59,13 +58,10 @@ module _ (n L : ℕ) (positive : 0 < n) where
     size-and-room = accepted-of (ltb limit (length result)) 15 0 _ ws (marks-and-size .1)
 
     refinable : Refinable n L (leaves cs) ms
-    refinable i inside refined = by (decLt i (length ms))
-      where
-        by : Dec (i < length ms) → nth (leaves cs) i .level < L
-        by (yes within) =
-            subst⁻¹ (λ (v : Leaf). v .level < L) (nth-leaves cs i (omega (arith, leaves-length cs)))
-            (refined-above L (cs .levels) ms (marks-and-size .0) i within refined)
-        by (no beyond) = absurd (let none = List·getD-eq-default ms 0 {n = i} (omega arith) in omega arith)
+    refinable =
+        let fitting = listed-fits n L K true (eqb (room cs) (length ms) && equalColumns m) cs _ ws h .1 in
+        let long = eqb-true (room cs) (length ms) (and-eq-true-iff (eqb (room cs) (length ms)) (equalColumns m) .0 fitting .0) in
+        marks-exactly n L cs ms (list .levels-long) (sym long) .0 (marks-and-size .0) .1
 
     pub adapt-listed : ValidList n L K (columnsOf ws)
     adapt-listed =

@@ -12,3 +12,4 @@ pub mod Demand2
 pub mod Demand3
 pub mod InMemory
 pub mod Starred
+pub mod Accepts

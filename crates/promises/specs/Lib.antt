@@ -7,3 +7,4 @@ pub mod InMemory
 pub mod Starred
 pub mod Promises
 pub mod Constants
+pub mod Accepts

@@ -4,5 +4,6 @@ pub mod Boundaries
 pub mod EqualWeights
 pub mod Promised
 pub mod Turns
+pub mod Weights
 pub mod Dividing
 pub mod Sharing

@@ -1,0 +1,242 @@
+-- When each call on lists and files accepts: it is a chain of tests, and it accepts exactly when each of them passes. Assumes nothing.
+use mathlib.Core.Path.{_≡_, refl, ap, ap₂, _∙_, sym, subst}
+use mathlib.Core.Logic.{_↔_, Iff·trans, Iff·and}
+use mathlib.Core.Bool.{Bool, true, false, not, _&&_, and-eq-true-iff}
+use mathlib.Core.List.{List}
+use Prim.Native.Nat.{ℕ, _+_, _*_, _^_, _≤_, _<_}
+use native.Mathlib.Omega.{arith}
+use lib.Dec.{ltb, eqb}
+use lib.ListN.{length}
+use borrow.Author.Tests.{ltb-false, le-ltb, eqb-true, eq-eqb, ne-eqb, not-true, not-false}
+use Rattle.paper.specs.Outcome.{Outcome, accepted, passed, refuse-when-at, scan}
+use Rattle.paper.specs.Memory.{roomFor}
+use Rattle.paper.proofs.Tests.{passed-by}
+use Rattle.paper.proofs.Scan.{accepted-of, scan-accepted, scan-passed}
+use Rattle.leaves.specs.Leaves.{Leaf, Columns, leaves, room, equalColumns, uniformList}
+use Rattle.leaves.specs.Calls.{limit, most, outOfRange, listed, uniform}
+use Rattle.leaves.specs.Laws.{ValidList}
+use Rattle.leaves.proofs.Listed.{in-range, columns-sound, listed-passed, listed-accepted, listed-fits, valid-passes}
+use Rattle.balance.specs.Balance.{isBalanced, Balanced, balanced}
+use Rattle.balance.proofs.Exactly.{exact}
+use Rattle.marks.specs.Marks.{marked}
+use Rattle.marks.proofs.Marked.{marked-passed, marked-accepted}
+use Rattle.adaption.specs.Adaption.{adapted}
+use Rattle.adaption.specs.Calls.{adapt}
+use Rattle.adaption.proofs.Marks.{marks-exactly}
+use Rattle.shares.specs.Shares.{boundaries}
+use Rattle.shares.specs.Calls.{weightFault, shares}
+use Rattle.shares.specs.Laws.{Weighty}
+use Rattle.shares.proofs.Weights.{weights-exactly}
+use Rattle.numbers.specs.Laws.{Bytes}
+use Rattle.format.specs.File.{fileOf}
+use Rattle.format.specs.Reading.{Grid}
+use Rattle.format.specs.Laws.{FileOf}
+use Rattle.writer.specs.Calls.{write}
+use Rattle.reader.specs.Calls.{read}
+use Rattle.gridfile.proofs.Exactly.{read-exactly}
+use Rattle.promises.specs.Accepts.{Lent, Starts, TellsBalance, Adapts, Divides, Saves, Loads, Accepts}
+
+-- ---- what the tests say
+in-range-is : (k : ℕ) → outOfRange k ≡ false ↔ ((0 < k) × (k ≤ most))
+in-range-is k = (in-range k, λ (h : (0 < k) × (k ≤ most)). simp (ne-eqb k 0 (λ none. omega arith), le-ltb most k (h .1)))
+
+at-most : (top k : ℕ) → ltb top k ≡ false ↔ (k ≤ top)
+at-most top k = (ltb-false top k, le-ltb top k)
+
+lent-is : (m : Columns) → equalColumns m ≡ true ↔ Lent m
+lent-is m = (there, back)
+  where
+    there : equalColumns m ≡ true → Lent m
+    there h =
+        let both = and-eq-true-iff (eqb (length (m .roots)) (length (m .levels))) (eqb (length (m .roots)) (length (m .positions))) .0 h in
+        record { levels-long = eqb-true _ _ (both .0); positions-long = eqb-true _ _ (both .1) }
+
+    back : Lent m → equalColumns m ≡ true
+    back h = simp (eq-eqb (length (m .roots)) (length (m .levels)) (h .levels-long), eq-eqb (length (m .roots)) (length (m .positions)) (h .positions-long))
+
+not-is : (t : Bool) {P : Type 0} → (t ≡ true ↔ P) → not t ≡ false ↔ P
+not-is t test = ((λ h. test .0 (not-false t h)), λ p. ap not (test .1 p))
+
+range-of : (P : ℕ) → not (outOfRange P) ≡ true ↔ ((0 < P) × (P ≤ most))
+range-of P = ((λ h. in-range-is P .0 (not-true (outOfRange P) h)), λ h. ap not (in-range-is P .1 h))
+
+equal-is : (k m : ℕ) → eqb k m ≡ true ↔ (m ≡ k)
+equal-is k m = ((λ h. sym (eqb-true k m h)), λ h. eq-eqb k m (sym h))
+
+always : true ≡ true ↔ Unit {0}
+always = ((λ h. tt), λ u. refl)
+
+-- ---- one test after the other; what they say, each with all that follows
+module _ {A : Type 0} {a : A} where
+  after : (t : Bool) (number place : ℕ) {rest : Outcome A} {P Q : Type 0} → (t ≡ false ↔ P) → (rest ≡ accepted a ↔ Q)
+      → refuse-when-at t number place rest ≡ accepted a ↔ (P × Q)
+  after t number place {rest} {P} {Q} test later = (
+    (λ h. let d = accepted-of t number place rest a h in (test .0 (d .0), later .0 (d .1))),
+    λ (h : P × Q). passed-by t number place rest (test .1 (h .0)) ∙ later .1 (h .1),
+  )
+
+  enough-room : (needed there : ℕ) (b : A) → roomFor needed there b ≡ accepted a ↔ ((needed ≤ there) × (a ≡ b))
+  enough-room needed there b = after (ltb there needed) 14 needed (at-most there needed) ((λ h. cc), λ h. cc)
+
+  module _ (K : ℕ) (inRange fitting : Bool) (cs : Columns) {rest : Outcome A} {P Q R : Type 0} where
+    after-list : (inRange ≡ true ↔ P) → (fitting ≡ true ↔ Q) → (rest ≡ accepted a ↔ R)
+        → listed 8 21 K inRange fitting cs rest ≡ accepted a ↔ (ValidList 8 21 K cs × (P × (Q × R)))
+    after-list range fits later = (there, back)
+      where
+        there : listed 8 21 K inRange fitting cs rest ≡ accepted a → ValidList 8 21 K cs × (P × (Q × R))
+        there h =
+            let inside = listed-accepted 8 21 K inRange fitting cs rest a h in
+            let both = listed-fits 8 21 K inRange fitting cs rest a h in
+            (columns-sound 8 21 K inRange fitting cs (inside .0), (range .0 (both .0), (fits .0 (both .1), later .0 (inside .1))))
+
+        back : ValidList 8 21 K cs × (P × (Q × R)) → listed 8 21 K inRange fitting cs rest ≡ accepted a
+        back (list, (p, (q, r))) =
+            ap₂ (λ (x y : Bool). listed 8 21 K x y cs rest) (range .1 p) (fits .1 q)
+            ∙ listed-passed 8 21 K true true cs rest (valid-passes 8 21 K cs list) ∙ later .1 r
+
+  after-weights : (ws : List ℕ) {rest : Outcome A} {Q : Type 0} → (rest ≡ accepted a ↔ Q) → scan weightFault 0 ws rest ≡ accepted a ↔ (Weighty ws × Q)
+  after-weights ws {rest} {Q} later = (
+    (λ h. let both = scan-accepted weightFault 0 ws rest a h in (weights-exactly ws .0 (both .0), later .0 (both .1))),
+    (λ (h : Weighty ws × Q). scan-passed weightFault 0 ws rest (weights-exactly ws .1 (h .0)) ∙ later .1 (h .1)),
+  )
+
+  after-marks : (ls ms : List ℕ) {rest : Outcome A} {Q : Type 0} → (rest ≡ accepted a ↔ Q)
+      → marked 21 ls ms rest ≡ accepted a ↔ ((marked 21 ls ms passed ≡ passed) × Q)
+  after-marks ls ms {rest} {Q} later = (
+    (λ h. let both = marked-accepted 21 ls ms rest a h in (both .0, later .0 (both .1))),
+    (λ (h : (marked 21 ls ms passed ≡ passed) × Q). marked-passed 21 ls ms rest (h .0) ∙ later .1 (h .1)),
+  )
+
+-- ---- the calls
+uniform-is : (K l : ℕ) (m : Columns) (ws : List Leaf) → uniform 8 21 K l m ≡ accepted ws ↔ Starts K l m ws
+uniform-is K l m ws = (
+  (λ h.
+      let t = chain .0 h in
+      record {
+        some-root = t .0 .0;
+        few-roots = t .0 .1;
+        lent = t .1 .0;
+        shallow = t .1 .1 .0;
+        few = t .1 .1 .1 .0;
+        enough = t .1 .1 .1 .1 .0;
+        result = t .1 .1 .1 .1 .1;
+      }),
+  (λ s. chain .1 ((s .some-root, s .few-roots), (s .lent, (s .shallow, (s .few, (s .enough, s .result)))))),
+)
+  where
+    chain : uniform 8 21 K l m ≡ accepted ws
+        ↔ (((0 < K) × (K ≤ most)) × (Lent m × ((l ≤ 21) × ((K * 8 ^ l ≤ limit) × ((K * 8 ^ l ≤ room m) × (ws ≡ uniformList 8 21 K l))))))
+    chain =
+        after (outOfRange K) 17 0 (in-range-is K)
+        (after (not (equalColumns m)) 11 0 (not-is (equalColumns m) (lent-is m))
+        (after (ltb 21 l) 1 0 (at-most 21 l)
+        (after (ltb limit (K * 8 ^ l)) 15 0 (at-most limit (K * 8 ^ l))
+        (enough-room (K * 8 ^ l) (room m) (uniformList 8 21 K l)))))
+
+balanced-is : (K : ℕ) (cs : Columns) (b : Bool) → balanced 8 21 K cs ≡ accepted b ↔ TellsBalance K cs b
+balanced-is K cs b = (
+  (λ h. let t = chain .0 h in record { list = t .0; result = t .1 .1 .1 }),
+  (λ s. chain .1 (s .list, (tt, (tt, s .result)))),
+)
+  where
+    same : (x y : Bool) → (x ≡ true → y ≡ true) → (y ≡ true → x ≡ true) → x ≡ y
+    same true y f g = sym (f refl)
+    same false true f g = g refl
+    same false false f g = refl
+
+    answer : (vs : List Leaf) → _≡_ {A = Outcome Bool} (accepted (isBalanced vs)) (accepted b) ↔ (b ≡ true ↔ Balanced vs)
+    answer vs = (
+      (λ h. let is : isBalanced vs ≡ b = cc in subst (λ (x : Bool). x ≡ true ↔ Balanced vs) is (exact vs)),
+      (λ f. ap accepted (same (isBalanced vs) b (λ h. f .1 (exact vs .0 h)) (λ h. exact vs .1 (f .0 h)))),
+    )
+
+    chain : balanced 8 21 K cs ≡ accepted b ↔ (ValidList 8 21 K cs × (Unit {0} × (Unit {0} × (b ≡ true ↔ Balanced (leaves cs)))))
+    chain = after-list K true true cs always always (answer (leaves cs))
+
+adapt-is : (K : ℕ) (cs : Columns) (ms : List ℕ) (m : Columns) (ws : List Leaf) → adapt 8 21 K cs ms m ≡ accepted ws ↔ Adapts K cs ms m ws
+adapt-is K cs ms m ws = (
+  (λ h.
+      let t = chain .0 h in
+      let fitting = t .1 .1 .0 in
+      let size = t .1 .1 .1 .1 in
+      let marks = marks-exactly 8 21 cs ms (t .0 .levels-long) (fitting .0) .0 (t .1 .1 .1 .0) in
+      let long = ap length (size .1 .1) in
+      record {
+        list = t .0;
+        marked = fitting .0;
+        lent = fitting .1;
+        known = marks .0;
+        refinable = marks .1;
+        few = omega (arith, size .0, long);
+        enough = omega (arith, size .1 .0, long);
+        result = size .1 .1;
+      }),
+  (λ s.
+      let marks = marks-exactly 8 21 cs ms (s .list .levels-long) (s .marked) .1 (s .known, s .refinable) in
+      let long = ap length (s .result) in
+      chain .1 (s .list, (tt, ((s .marked, s .lent), (marks, (omega (arith, s .few, long), (omega (arith, s .enough, long), s .result))))))),
+)
+  where
+    chain : adapt 8 21 K cs ms m ≡ accepted ws
+        ↔ (ValidList 8 21 K cs × (Unit {0} × (((length ms ≡ room cs) × Lent m) × ((marked 21 (cs .levels) ms passed ≡ passed)
+        × ((length (adapted 8 (leaves cs) ms) ≤ limit) × ((length (adapted 8 (leaves cs) ms) ≤ room m) × (ws ≡ adapted 8 (leaves cs) ms)))))))
+    chain =
+        let new = adapted 8 (leaves cs) ms in
+        after-list K true (eqb (room cs) (length ms) && equalColumns m) cs always
+        (Iff·trans (and-eq-true-iff (eqb (room cs) (length ms)) (equalColumns m)) (Iff·and (equal-is (room cs) (length ms)) (lent-is m)))
+        (after-marks (cs .levels) ms
+        (after (ltb limit (length new)) 15 0 (at-most limit (length new))
+        (enough-room (length new) (room m) new)))
+
+shares-is : (K P : ℕ) (cs : Columns) (ws column bs : List ℕ) → shares 8 21 K P cs ws column ≡ accepted bs ↔ Divides K P cs ws column bs
+shares-is K P cs ws column bs = (
+  (λ h.
+      let t = chain .0 h in
+      record {
+        list = t .0;
+        some-share = t .1 .0 .0;
+        few-shares = t .1 .0 .1;
+        weighed = t .1 .1 .0;
+        weighty = t .1 .1 .1 .0;
+        enough = t .1 .1 .1 .1 .0;
+        result = t .1 .1 .1 .1 .1;
+      }),
+  (λ d. chain .1 (d .list, ((d .some-share, d .few-shares), (d .weighed, (d .weighty, (d .enough, d .result)))))),
+)
+  where
+    chain : shares 8 21 K P cs ws column ≡ accepted bs
+        ↔ (ValidList 8 21 K cs × (((0 < P) × (P ≤ most)) × ((length ws ≡ room cs) × (Weighty ws × ((P + 1 ≤ length column) × (bs ≡ boundaries P ws))))))
+    chain =
+        after-list K (not (outOfRange P)) (eqb (room cs) (length ws)) cs (range-of P) (equal-is (room cs) (length ws))
+        (after-weights ws (enough-room (P + 1) (length column) (boundaries P ws)))
+
+write-is : (K : ℕ) (cs : Columns) (bytes file : List ℕ) → write 8 21 K cs bytes ≡ accepted file ↔ Saves K cs bytes file
+write-is K cs bytes file = (
+  (λ h. let t = chain .0 h in record { list = t .0; enough = omega (arith, t .1 .1 .1 .0, ap length (t .1 .1 .1 .1)); result = t .1 .1 .1 .1 }),
+  (λ s. chain .1 (s .list, (tt, (tt, (omega (arith, s .enough, ap length (s .result)), s .result))))),
+)
+  where
+    chain : write 8 21 K cs bytes ≡ accepted file
+        ↔ (ValidList 8 21 K cs × (Unit {0} × (Unit {0} × ((length (fileOf K (leaves cs)) ≤ length bytes) × (file ≡ fileOf K (leaves cs))))))
+    chain = after-list K true true cs always always (enough-room (length (fileOf K (leaves cs))) (length bytes) (fileOf K (leaves cs)))
+
+read-is : (bytes : List ℕ) (m : Columns) (g : Grid) → Bytes bytes → read 8 21 bytes m ≡ accepted g ↔ Loads bytes m g
+read-is bytes m g all = (
+  (λ h. let t = whole .0 h in record { lent = lent-is m .0 (t .0); enough = t .1 .1; result = t .1 .0 }),
+  (λ s. whole .1 (lent-is m .1 (s .lent), (s .result, s .enough))),
+)
+  where
+    whole : read 8 21 bytes m ≡ accepted g ↔ ((equalColumns m ≡ true) × (FileOf 8 21 bytes g × (length (g .leaves) ≤ room m)))
+    whole = read-exactly 8 21 (omega arith) (omega arith) bytes m g all
+
+pub accepts : Accepts
+accepts =
+    record {
+      check = λ K cs. (columns-sound 8 21 K true true cs, valid-passes 8 21 K cs);
+      uniform = uniform-is;
+      balanced = balanced-is;
+      adapt = adapt-is;
+      shares = shares-is;
+      write = write-is;
+      read = read-is;
+    }
