@@ -74,7 +74,7 @@ module _ (n L : ℕ) (positive : 0 < n) where
   step-valid : (K : ℕ) (vs ws : List Leaf) → Step n L K vs ws → Valid n L K ws
   step-valid K vs ws s = subst (Valid n L K) (leaves-of-columns ws) (adapt-listed K (columnsOf vs) (s .marks) (s .lent) ws (s .accepts) .valid)
 
-  steps-valid : (K s : ℕ) (vs ws : List Leaf) → Valid n L K vs → Steps n L K s vs ws → Valid n L K ws
+  pub steps-valid : (K s : ℕ) (vs ws : List Leaf) → Valid n L K vs → Steps n L K s vs ws → Valid n L K ws
   unfolding Steps
   steps-valid K zero vs ws valid same = subst (Valid n L K) same valid
   steps-valid K (suc s) vs ws valid (us, (earlier, step)) = step-valid K us ws step
@@ -84,8 +84,6 @@ module _ (n L : ℕ) (positive : 0 < n) where
       record {
         one-pass = one-pass;
         valid = λ K vs ms. adapted-valid n L K positive vs ms;
-        adapted-list = adapt-listed;
-        reached = steps-valid;
         unmarked = unmarked-stays n positive;
         undone = refined-undone n positive;
       }

@@ -5,7 +5,7 @@
 --   Refinable vs ms   no leaf of the highest level is marked 1
 --   Marked            the marks of N leaves are m for the k leaves from number i on, and 0 for the others
 --   Step, Steps K s vs ws   an accepted adaption of the list vs: the leaves that it gives; s of them, one after the other, from vs to ws
---   Promised          all of it; what an accepted adaption gives is a list again
+--   Promised          all of it
 --   Siblings S vs j   the leaves from number j on, as many as an element has children, are of one root, and their elements are a family: "yes
 --                     exactly when the given elements are all children of one parent, in order"
 --   Relatives S       a leaf's children and its parent are the element's, and leaves are a family here exactly when they are siblings there
@@ -21,7 +21,6 @@ use Rattle.paper.specs.Outcome.{accepted, rows}
 use Rattle.tree.specs.Shape.{Shape}
 use Rattle.tree.specs.Words as words
 use Rattle.leaves.specs.Leaves.{Leaf, nth, Columns, columnsOf, Valid}
-use Rattle.leaves.specs.Laws.{ValidList}
 use Rattle.leaves.specs.Cells.{elementOf, Proper}
 use Rattle.marks.specs.Marks.{mark}
 use Rattle.adaption.specs.Adaption.{child, parent, childrenOf, family, merging, gives, adapted}
@@ -62,9 +61,6 @@ module _ (n : ℕ) where
     pub record Promised : Type 0 where
       pub one-pass : (vs : List Leaf) (ms : List ℕ) → OnePass vs ms
       pub valid : (K : ℕ) (vs : List Leaf) (ms : List ℕ) → Valid n L K vs → Refinable vs ms → Valid n L K (adapted n vs ms)
-      pub adapted-list : (K : ℕ) (cs : Columns) (ms : List ℕ) (m : Columns) (ws : List Leaf) → adapt n L K cs ms m ≡ accepted ws
-          → ValidList n L K (columnsOf ws)
-      pub reached : (K s : ℕ) (vs ws : List Leaf) → Valid n L K vs → Steps K s vs ws → Valid n L K ws
       pub unmarked : (vs : List Leaf) (ms : List ℕ) → ((i : ℕ) → i < length vs → mark ms i ≡ 0) → adapted n vs ms ≡ vs
       pub undone : (vs : List Leaf) (ms ms′ : List ℕ) (i : ℕ) → i < length vs → Marked ms 1 i 1 (length vs)
           → Marked ms′ 2 i n (length (adapted n vs ms)) → adapted n (adapted n vs ms) ms′ ≡ vs

@@ -1,6 +1,7 @@
 -- Yes is exactly the paper's sentence: the test of two leaves is its condition on them, and each leaf is tested with the next.
 -- Assumes nothing.
 use mathlib.Core.Path.{_≡_, refl, subst, sym}
+use mathlib.Core.Logic.{_↔_}
 use mathlib.Core.Bool.{true, and-eq-true-iff}
 use mathlib.Core.List.{List, [], _∷_}
 use Prim.Native.Nat.{ℕ, zero, suc, _+_, _<_}
@@ -11,7 +12,7 @@ use lib.Dec.{leb}
 use lib.ListN.{length}
 use borrow.Author.Tests.{le-leb, leb-true, eq-eqb}
 use Rattle.leaves.specs.Leaves.{Leaf, nth}
-use Rattle.balance.specs.Balance.{near, balancedAfter, isBalanced, Near, ExactBalance}
+use Rattle.balance.specs.Balance.{near, balancedAfter, isBalanced, Near, Balanced}
 use Rattle.balance.proofs.Pairs.{near-levels, near-roots}
 
 -- ---- two leaves
@@ -47,7 +48,7 @@ after-complete u (v ∷ vs) f =
     and-eq-true-iff (near u v) (balancedAfter v vs) .1
     (near-complete u v (f 0 (omega arith)), after-complete v vs (λ i inside. f (suc i) (omega arith)))
 
-pub exact : ExactBalance
+pub exact : (vs : List Leaf) → isBalanced vs ≡ true ↔ Balanced vs
 unfolding isBalanced
 exact [] = ((λ h i inside same. absurd (omega arith)), (λ f. refl))
 exact (u ∷ vs) = (

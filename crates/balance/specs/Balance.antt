@@ -4,11 +4,9 @@
 --   isBalanced vs  so do any two of vs that follow one another; balancedAfter u vs: and u and the first of vs
 --   balanced       the call: the tests of a list call, then yes or no
 --   Balanced vs    the paper's sentence as a statement, Near u v for two leaves
---   ExactBalance   yes is exactly that
 --
 -- Assumes nothing.
 use mathlib.Core.Path.{_≡_}
-use mathlib.Core.Logic.{_↔_}
 use mathlib.Core.Bool.{Bool, true, not, _&&_, _||_}
 use mathlib.Core.List.{List, [], _∷_}
 use Prim.Native.Nat.{ℕ, _+_, _≤_, _<_}
@@ -39,6 +37,3 @@ pub record Near (u v : Leaf) : Type 0 where
 
 abbrev pub Balanced : List Leaf → Type 0
 Balanced vs = (i : ℕ) → i + 1 < length vs → nth vs i .root ≡ nth vs (i + 1) .root → Near (nth vs i) (nth vs (i + 1))
-
-abbrev pub ExactBalance : Type 0
-ExactBalance = (vs : List Leaf) → isBalanced vs ≡ true ↔ Balanced vs

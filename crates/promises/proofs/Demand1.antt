@@ -1,8 +1,8 @@
 -- Demand 1: each call's answer is one, its memory is what its outcome leaves, and its refusals are those of its tests. Assumes nothing.
-use mathlib.Core.Path.{_≡_, refl, _∙_, sym, ap}
+use mathlib.Core.Path.{_≡_, refl, _∙_, sym, ap, subst}
 use mathlib.Core.Bool.{not}
 use mathlib.Core.List.{List, [], _∷_}
-use Prim.Native.Nat.{ℕ, _^_, _≤_}
+use Prim.Native.Nat.{ℕ, _+_, _*_, _^_, _≤_}
 use native.Mathlib.Omega.{arith}
 use lib.Dec.{leb, ltb}
 use lib.ListN.{length}
@@ -10,6 +10,9 @@ use Rattle.paper.specs.Outcome.{Outcome}
 use Rattle.paper.specs.Memory.{written}
 use Rattle.paper.specs.Readings.{valueOf, truthOf, comparisonOf, passOf}
 use Rattle.paper.proofs.Faults.{finds-one}
+use Rattle.line.specs.Elements.{line, lineOf}
+use Rattle.triangle.specs.Elements.{triangle, triangleOf}
+use Rattle.prism.specs.Elements.{prism, prismOf}
 use Rattle.leaves.specs.Leaves.{Columns, front}
 use Rattle.columns.specs.Laying.{Laid, stretch, stored}
 use Rattle.marks.specs.Marks.{checkMarks}
@@ -26,6 +29,7 @@ use Rattle.forms.specs.Forms.{formOf}
 use Rattle.forms.proofs.Refusals.{read-refused}
 use Rattle.text.specs.Text.{longestOutput}
 use Rattle.orders.specs.Calls.{output}
+use Rattle.orders.specs.Calls as orders
 use Rattle.orders.proofs.Promised.{promised}
 use Rattle.fields.specs.Inner as fields
 use Rattle.forms.specs.Forms as forms
@@ -33,8 +37,9 @@ use Rattle.promises.specs.Refusals.{Refuses}
 use Rattle.promises.specs.Demand1.{OnLists, OnParts, OfCalls}
 use Rattle.promises.proofs.Refusals.{when, fine, room-so, at0, at1, at2, at3}
 use Rattle.promises.proofs.Calls.{answer, lent}
-use Rattle.promises.proofs.Determined.{numbers, truths, comparisons, passes, grids, found-numbers, points, heads, forms-read}
-use Rattle.promises.proofs.ShapeCalls.{on-lines, on-triangles, on-prisms}
+use Rattle.promises.proofs.Determined.{lines, triangles, prisms, numbers, truths, comparisons, passes, grids, found-numbers, points, heads, forms-read}
+use Rattle.promises.proofs.ElementCalls.{on-elements}
+use Rattle.promises.proofs.ShapeCalls.{line-rows, triangle-rows, prism-rows}
 use Rattle.promises.proofs.ListCalls.{check-so, balanced-so, uniform-so, check-marks-so, adapt-so, shares-so}
 use Rattle.promises.proofs.FileCalls.{front-so, number-so, sound-so, read-so, write-so}
 
@@ -58,28 +63,28 @@ on-parts : OnParts
 on-parts =
     record {
       order = λ first level second other. answer comparisonOf comparisons (fine _);
-      marks = λ highest ls ms.
+      check-marks = λ highest ls ms.
           record {
             one = λ r s m m′ f g. (finds-one r s (checkMarks highest ls ms) f g, refl);
             spared = λ r m number place f h. refl;
-            refusals = check-marks-so highest ls ms;
+            refusals = λ r m f. subst (Refuses (11 ∷ 13 ∷ 7 ∷ []) (length ms)) (sym (f .stands)) (check-marks-so highest ls ms);
           };
-      number = λ bytes i. answer foundOf found-numbers (number-so bytes i);
-      front = λ bytes. answer headOf heads (front-so bytes);
+      number-at = λ bytes i. answer foundOf found-numbers (number-so bytes i);
+      head-at = λ bytes. answer headOf heads (front-so bytes);
       sound = λ bytes h.
           record {
             one = λ r s m m′ f g. (tells-one r s (sound 8 21 bytes h) f g, refl);
             spared = λ r m number place f h. refl;
-            refusals = sound-so bytes h;
+            refusals = λ r m f. subst (Refuses (19 ∷ 20 ∷ 1 ∷ 21 ∷ 15 ∷ 12 ∷ 22 ∷ []) (h .next + 6 * h .runs)) (sym (f .fault .stands)) (sound-so bytes h);
           };
-      stretch = λ at k root level position m r s a b f g.
+      lay = λ at k root level position m r s a b f g.
           let same = f .answer ∙ sym (g .answer) in
           (same, f .memory ∙ stretch-one root level position m r s same at ∙ sym (g .memory));
-      field = λ f. answer valueOf numbers (when (not (isNumber f)) 23 at0 (λ is. fine _));
-      printed = λ bytes m r s a b f g. (f .end ∙ sym (g .end), f .written ∙ sym (g .written));
+      number = λ f. answer valueOf numbers (when (not (isNumber f)) 23 at0 (λ is. fine _));
+      print = λ bytes m r s a b f g. (f .end ∙ sym (g .end), f .written ∙ sym (g .written));
     }
 
-points-so : (l p i : ℕ) (r : Root) → Refuses (1 ∷ 5 ∷ 8 ∷ 24 ∷ []) 0 (cornerPoint l p i r)
+pub points-so : (l p i : ℕ) (r : Root) → Refuses (1 ∷ 5 ∷ 8 ∷ 24 ∷ []) 0 (cornerPoint l p i r)
 unfolding cornerPoint
 points-so l p i r =
     when (ltb 21 l) 1 at0 (λ shallow. when (leb (8 ^ l) p) 5 at1 (λ inside. when (leb 6 i) 8 at2 (λ few. when (not (rootWithin r)) 24 at3 (λ near. fine _))))
@@ -91,15 +96,18 @@ forms-so input =
       place = λ number field e. read-refused input number field e .1 .1;
     }
 
+pub orders-so : (input m : List ℕ) → Refuses (14 ∷ []) longestOutput (orders.answer input (length m))
+orders-so input m = room-so (length (output input)) (length m) (output input) at0 (promised .room input)
+
 pub of-calls : OfCalls
 of-calls =
     record {
-      on-lines = on-lines;
-      on-triangles = on-triangles;
-      on-prisms = on-prisms;
+      on-lines = on-elements line lineOf (1 ∷ 2 ∷ []) lines line-rows;
+      on-triangles = on-elements triangle triangleOf (1 ∷ 2 ∷ 3 ∷ 4 ∷ []) triangles triangle-rows;
+      on-prisms = on-elements prism prismOf (1 ∷ 2 ∷ 3 ∷ 4 ∷ []) prisms prism-rows;
       on-lists = on-lists;
       on-points = λ l p i r. answer pointOf points (points-so l p i r);
-      on-orders = λ input m. lent valueOf numbers length written (room-so (length (output input)) (length m) (output input) at0 (promised .room input));
+      on-orders = λ input m. lent valueOf numbers length written (orders-so input m);
       on-forms = λ input. answer formOf forms-read (forms-so input);
       field-from-1 = λ input number field e. read-refused input number field e .1 .0;
       on-parts = on-parts;

@@ -1,5 +1,4 @@
 -- Demand 2: each part is a law of its crate, at the three shapes. Assumes nothing.
-use mathlib.Core.Bool.{Bool}
 use mathlib.Core.List.{List}
 use Prim.Native.Nat.{ℕ}
 use native.Mathlib.Omega.{arith}
@@ -23,11 +22,8 @@ use Rattle.index.specs.Index.{lineIndex, triangleIndex, prismIndex}
 use Rattle.index.specs.Rank.{Ranked}
 use Rattle.index.proofs.Rank.{line-ranked, triangle-ranked, prism-ranked}
 use Rattle.index.proofs.Bey.{bey}
-use Rattle.leaves.specs.Leaves.{Leaf}
-use Rattle.leaves.proofs.Promised.{list-call}
 use Rattle.leaves.proofs.Ancestors.{cell-laws}
 use Rattle.adaption.proofs.Elements.{relatives}
-use Rattle.balance.proofs.Exactly.{exact}
 use Rattle.numbers.proofs.Coded.{codec}
 use Rattle.format.proofs.OneFile.{one-file}
 use Rattle.gridfile.proofs.RoundTrip.{round-trip}
@@ -46,6 +42,7 @@ use Rattle.corners.proofs.Promised as corners
 use Rattle.orders.proofs.Promised as orders
 use Rattle.promises.specs.Demand2.{Figure, lineFigure, triangleFigure, prismFigure, Elements, OfElements, OfLists, OfFiles, Demand2}
 use Rattle.promises.proofs.ElementCalls.{handed-back}
+use Rattle.promises.proofs.Accepts as lists
 
 module _ {E P : Type 0} (S : Shape E) (index : E → ℕ) (F : Figure E P) where
   elements : Lawful S → Ranked S index → Constants S (F .corner) (F .corners) (F .points) (F .faces) → Faces S (F .points) (F .across)
@@ -86,16 +83,12 @@ of-elements =
 of-lists : OfLists
 of-lists =
     record {
+      accepts = lists.accepts;
       listed = leaves.promised 8 21 (omega arith);
-      of-check = list-call 8 21 (Unit {0});
-      of-balanced = list-call 8 21 Bool;
-      of-adapt = list-call 8 21 (List Leaf);
-      of-shares-and-write = list-call 8 21 (List ℕ);
       cells = cell-laws prism (prisms.lawful 21);
       relatives = relatives prism (prisms.lawful 21);
       adapted = adaption.promised 8 21 (omega arith);
       shared = shares.promised;
-      balanced = exact;
     }
 
 of-files : OfFiles

@@ -2,8 +2,7 @@
 use mathlib.Core.Path.{_≡_, _∙_, sym, subst}
 use mathlib.Core.Bool.{true, not}
 use mathlib.Core.List.{List}
-use Prim.Native.Nat.{ℕ, zero, suc, _+_, _-_, _≤_, _<_}
-use native.Mathlib.Nat.{add-sub-of-le}
+use Prim.Native.Nat.{ℕ, _+_, _<_}
 use native.Mathlib.Omega.{arith}
 use lib.Dec.{ltb, eqb}
 use lib.ListN.{length, getD}
@@ -20,22 +19,15 @@ use Rattle.leaves.proofs.Entries.{some-leaf, leaves-of-columns}
 use Rattle.leaves.proofs.UniformValid.{uniform-listed}
 use Rattle.leaves.proofs.Listed.{in-range, columns-sound, listed-accepted, listed-fits}
 use Rattle.leaves.proofs.Columns.{leaves-length}
-use Rattle.shares.specs.Shares.{boundary, boundaries}
+use Rattle.shares.specs.Shares.{boundaries}
 use Rattle.shares.specs.Calls.{weightFault, shares}
 use Rattle.shares.specs.Laws.{Fair, Weighty}
 use Rattle.prism.proofs.Laws as prism-laws
-use Rattle.adaption.proofs.Promised as adaption-laws
+use Rattle.adaption.proofs.Promised.{steps-valid}
+use Rattle.shares.proofs.Boundaries.{boundary-monotone}
 use Rattle.shares.proofs.Promised as shares-laws
 use Rattle.gridfile.proofs.RoundTrip.{loads-list}
 use Rattle.promises.specs.Demand3.{Begun, started, loaded, Reached, Divided, OfGrids}
-
--- boundaries rise
-rising-to : {P : ℕ} {ws : List ℕ} → Fair P ws → (a b : ℕ) → a ≤ b → boundary P ws a ≤ boundary P ws b
-rising-to {P} {ws} fair a b up = subst (λ (c : ℕ). boundary P ws a ≤ boundary P ws c) (add-sub-of-le up) (by (b - a))
-  where
-    by : (k : ℕ) → boundary P ws a ≤ boundary P ws (a + k)
-    by zero = omega arith
-    by (suc k) = omega (arith, by k, fair .rising (a + k))
 
 of-list : (K P : ℕ) (vs : List Leaf) (ws : List ℕ) → Valid 8 21 K vs → 0 < length vs → length ws ≡ length vs → Weighty ws → 0 < P → Divided K P vs ws
 unfolding prismTo
@@ -52,8 +44,8 @@ of-list K P vs ws valid some long weighty positive = by (shares-laws.promised .f
           fair = fair;
           shares-along = λ s t i j earlier below from to.
               cell-laws prism (prism-laws.lawful 21) .along K vs valid i j
-              (omega (arith, from .to, to .from, rising-to fair (s + 1) t (omega arith)))
-              (omega (arith, to .to, rising-to fair (t + 1) P (omega arith), fair .to-all));
+              (omega (arith, from .to, to .from, boundary-monotone P ws (s + 1) t (omega arith)))
+              (omega (arith, to .to, boundary-monotone P ws (t + 1) P (omega arith), fair .to-all));
         }
 
 -- the tests that an accepted call of shares has passed
@@ -95,7 +87,7 @@ begun-valid K vs begun =
 of-reached : (K P : ℕ) (vs : List Leaf) (ws : List ℕ) → Reached K vs → length ws ≡ length vs → Weighty ws → 0 < P → Divided K P vs ws
 of-reached K P vs ws reached =
     let start = begun-valid K (reached .beginning) (reached .begun) in
-    let valid = adaption-laws.promised 8 21 (omega arith) .reached K (reached .adaptions) (reached .beginning) vs (start .1) (reached .steps) in
+    let valid = steps-valid 8 21 (omega arith) K (reached .adaptions) (reached .beginning) vs (start .1) (reached .steps) in
     of-list K P vs ws valid (some-leaf 8 21 K vs (start .0) valid)
 
 pub of-grids : OfGrids

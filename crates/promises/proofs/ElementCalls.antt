@@ -1,11 +1,12 @@
 -- The refusals of the element calls, over any shape: the checks on an element have their numbers, and across a face it is 10. Assumes nothing.
 use mathlib.Core.Path.{_≡_, refl, sym, subst}
 use mathlib.Core.Logic.{_⊎_, inl, inr}
-use mathlib.Core.Bool.{not}
+use mathlib.Core.Bool.{Bool, not}
 use mathlib.Core.List.{List, [], _∷_, List·Memᴰ}
 use Prim.Native.Nat.{ℕ, _+_, _^_, _≤_}
 use native.Mathlib.Omega.{arith}
 use lib.Dec.{leb, ltb, eqb}
+use lib.ListN.{length}
 use borrow.Author.Tests.{le-ltb}
 use Rattle.paper.specs.Outcome.{Outcome, accepted, refused}
 use Rattle.paper.specs.Readings.{valueOf, truthOf, comparisonOf}
@@ -35,45 +36,54 @@ across-so {E} S across {ns} e i ten = by (across e i)
     by (inl none) = subst (Refuses ns 0) (sym none) (refusal 10 0 ten (omega arith))
     by (inr (f, is)) = subst (Refuses ns 0) (sym is) (fine f)
 
-module _ {E R : Type 0} (S : Shape E) (elementOf : R → Outcome E) (determined : Determined elementOf) (faults : List ℕ)
-    (known : (e : E) → Known faults (S .fault e)) (deep : List·Memᴰ 1 faults) (across : Either S) where
-  descendant : (which : E → ℕ → E) (e : E) (l : ℕ) → Refuses (6 ∷ faults) 0 (calls.descendant S which e l)
-  descendant which e l =
-      fault-at (S .fault e) 0 (wider 6 (known e)) (omega arith)
-      (when (ltb (S .highest) l) 1 (after deep) (λ shallow. when (ltb l (S .level e)) 6 at0 (λ down. fine (which e l))))
+-- what each call can refuse by; fs are the numbers of the checks on an element
+pub record Rows {E : Type 0} (S : Shape E) (faults : List ℕ) : Type 0 where
+  pub at : (l p : ℕ) → Refuses (1 ∷ 5 ∷ []) 0 (calls.at S l p)
+  pub position : (e : E) → Refuses faults 0 (calls.position S e)
+  pub parent : (e : E) → Refuses (6 ∷ faults) 0 (calls.parent S e)
+  pub child : (e : E) (i : ℕ) → Refuses (7 ∷ 8 ∷ faults) 0 (calls.child S e i)
+  pub successor : (e : E) → Refuses (9 ∷ faults) 0 (calls.successor S e)
+  pub descendant : (which : E → ℕ → E) (e : E) (l : ℕ) → Refuses (6 ∷ faults) 0 (calls.descendant S which e l)
+  pub neighbour : (e : E) (i : ℕ) → Refuses (8 ∷ 10 ∷ faults) 0 (calls.neighbour S e i)
+  pub family : (equal : Bool) (es : List E) → Refuses (11 ∷ faults) (length es) (calls.family S equal es)
+  pub order : (e f : E) → Refuses faults 1 (calls.order S e f)
 
-  beyond : (e : E) (i : ℕ) → Refuses (8 ∷ 10 ∷ faults) 0 (S .neighbour e i)
-  beyond e i = across-so S across e i at1
+pub rows : {E : Type 0} (S : Shape E) (faults : List ℕ) → ((e : E) → Known faults (S .fault e)) → List·Memᴰ 1 faults → Either S → Rows S faults
+rows S faults known deep across =
+    record {
+      at = λ l p. when (ltb (S .highest) l) 1 at0 (λ shallow. when (leb (S .children ^ l) p) 5 at1 (λ inside. fine (Words.elementAt S l p)));
+      position = λ e. fault-at (S .fault e) 0 (known e) (omega arith) (fine (Words.position S e));
+      parent = λ e. fault-at (S .fault e) 0 (wider 6 (known e)) (omega arith) (when (eqb (S .level e) 0) 6 at0 (λ down. fine (S .parent e)));
+      child = λ e i.
+          fault-at (S .fault e) 0 (wider 7 (wider 8 (known e))) (omega arith)
+          (when (leb (S .highest) (S .level e)) 7 at0 (λ higher. when (leb (S .children) i) 8 at1 (λ few. fine (S .child e i))));
+      successor = λ e.
+          fault-at (S .fault e) 0 (wider 9 (known e)) (omega arith)
+          (when (eqb (Words.position S e + 1) (S .children ^ S .level e)) 9 at0 (λ another. fine (Words.successor S e)));
+      descendant = λ which e l.
+          fault-at (S .fault e) 0 (wider 6 (known e)) (omega arith)
+          (when (ltb (S .highest) l) 1 (after deep) (λ shallow. when (ltb l (S .level e)) 6 at0 (λ down. fine (which e l))));
+      neighbour = λ e i.
+          fault-at (S .fault e) 0 (wider 8 (wider 10 (known e))) (omega arith) (when (leb (S .faces) i) 8 at0 (λ few. across-so S across e i at1));
+      family = λ equal es.
+          when (not equal) 11 at0 (λ long. in-turn (S .fault) 0 es (λ e inside. wider 11 (known e)) (omega arith) (fine (Words.family S es)));
+      order = λ e f. in-turn (S .fault) 0 (e ∷ f ∷ []) (λ g inside. known g) (omega arith) (fine (Words.order S e f));
+    }
 
-  pub on-elements : OnElements S elementOf faults
-  on-elements =
-      record {
-        at = λ l p.
-            answer elementOf determined
-            (when (ltb (S .highest) l) 1 at0 (λ shallow. when (leb (S .children ^ l) p) 5 at1 (λ inside. fine (Words.elementAt S l p))));
-        position = λ e. answer valueOf numbers (fault-at (S .fault e) 0 (known e) (omega arith) (fine (Words.position S e)));
-        parent = λ e.
-            answer elementOf determined
-            (fault-at (S .fault e) 0 (wider 6 (known e)) (omega arith) (when (eqb (S .level e) 0) 6 at0 (λ deep. fine (S .parent e))));
-        child = λ e i.
-            answer elementOf determined
-            (fault-at (S .fault e) 0 (wider 7 (wider 8 (known e))) (omega arith)
-            (when (leb (S .highest) (S .level e)) 7 at0 (λ higher. when (leb (S .children) i) 8 at1 (λ few. fine (S .child e i)))));
-        successor = λ e.
-            answer elementOf determined
-            (fault-at (S .fault e) 0 (wider 9 (known e)) (omega arith)
-            (when (eqb (Words.position S e + 1) (S .children ^ S .level e)) 9 at0 (λ another. fine (Words.successor S e))));
-        first = λ e l. answer elementOf determined (descendant (Words.first S) e l);
-        last = λ e l. answer elementOf determined (descendant (Words.last S) e l);
-        neighbour = λ e i.
-            answer elementOf determined
-            (fault-at (S .fault e) 0 (wider 8 (wider 10 (known e))) (omega arith) (when (leb (S .faces) i) 8 at0 (λ few. beyond e i)));
-        family = λ equal es.
-            answer truthOf truths
-            (when (not equal) 11 at0 (λ long. in-turn (S .fault) 0 es (λ e inside. wider 11 (known e)) (omega arith) (fine (Words.family S es))));
-        order = λ e f.
-            answer comparisonOf comparisons (in-turn (S .fault) 0 (e ∷ f ∷ []) (λ g inside. known g) (omega arith) (fine (Words.order S e f)));
-      }
+pub on-elements : {E R : Type 0} (S : Shape E) (elementOf : R → Outcome E) (faults : List ℕ) → Determined elementOf → Rows S faults → OnElements S elementOf faults
+on-elements S elementOf faults determined refuses =
+    record {
+      at = λ l p. answer elementOf determined (refuses .at l p);
+      position = λ e. answer valueOf numbers (refuses .position e);
+      parent = λ e. answer elementOf determined (refuses .parent e);
+      child = λ e i. answer elementOf determined (refuses .child e i);
+      successor = λ e. answer elementOf determined (refuses .successor e);
+      first = λ e l. answer elementOf determined (refuses .descendant (Words.first S) e l);
+      last = λ e l. answer elementOf determined (refuses .descendant (Words.last S) e l);
+      neighbour = λ e i. answer elementOf determined (refuses .neighbour e i);
+      family = λ equal es. answer truthOf truths (refuses .family equal es);
+      order = λ e f. answer comparisonOf comparisons (refuses .order e f);
+    }
 
 -- ---- a sound element handed back
 module _ {E : Type 0} (S : Shape E) (across : Either S) where

@@ -118,7 +118,7 @@ in-memory =
 
 -- ---- over C: a word of 0 is an accepted outcome
 module _ {A R M : Type 0} (kind : Kind R) (shows : Outcome A → R) (put : A → M → M) (due : Outcome A) (r : R) (m m′ : M) where
-  returned : Flat kind due m (λ r m′. Fulfils (λ (r : R). r) shows put due r m m′) → Fulfils (λ (r : R). r) shows put due r m m′ → kind .refusal r ≡ 0
+  returned : {ns : List ℕ} {most : ℕ} → Flat kind ns most due m (λ r m′. Fulfils (λ (r : R). r) shows put due r m m′) → Fulfils (λ (r : R). r) shows put due r m m′ → kind .refusal r ≡ 0
       → (a : A) × ((due ≡ accepted a) × ((r ≡ shows (accepted a)) × (m′ ≡ put a m)))
   returned flat f zero =
       let a = flat .word r m′ f .accepts .0 zero in
@@ -134,7 +134,7 @@ grid-value g r is = (sym (ap (λ (r : GridResult). r .roots) is), sym (ap (λ (r
 
 module _ (k : ℕ) (due : Outcome (List Leaf)) (vs : List Leaf) (is-list : (ws : List Leaf) → due ≡ accepted ws → ValidList 8 21 k (columnsOf ws))
     (which : (ws : List Leaf) → due ≡ accepted ws → ws ≡ vs) where
-  given-over-c : (r : NumberResult) (m m′ : Columns) → Flat numbers due m (λ r m′. Fulfils (λ (r : NumberResult). r) countOf front due r m m′)
+  given-over-c : {ns : List ℕ} {most : ℕ} (r : NumberResult) (m m′ : Columns) → Flat numbers ns most due m (λ r m′. Fulfils (λ (r : NumberResult). r) countOf front due r m m′)
       → Fulfils (λ (r : NumberResult). r) countOf front due r m m′ → r .refusal ≡ 0 → Stored k vs (firstEntries (r .value) m′)
   given-over-c r m m′ flat f zero =
       let a = returned numbers countOf front due r m m′ flat f zero in

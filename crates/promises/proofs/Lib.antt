@@ -8,8 +8,8 @@ pub mod FileCalls
 pub mod Flat
 pub mod Demand1
 pub mod OverC
+pub mod Accepts
 pub mod Demand2
 pub mod Demand3
 pub mod InMemory
 pub mod Starred
-pub mod Accepts

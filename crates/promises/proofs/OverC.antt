@@ -2,73 +2,73 @@
 use mathlib.Core.Path.{_≡_, refl}
 use mathlib.Core.Bool.{true}
 use mathlib.Core.List.{List, [], _∷_}
-use Prim.Native.Nat.{ℕ, _^_, _<_}
+use Prim.Native.Nat.{ℕ}
 use native.Mathlib.Omega.{arith}
 use lib.ListN.{length}
 use Rattle.paper.specs.Outcome.{Outcome, mapped}
 use Rattle.paper.specs.Memory.{written}
 use Rattle.tree.specs.Shape.{Shape}
-use Rattle.line.specs.Elements.{line, lineOf}
-use Rattle.triangle.specs.Elements.{triangle, triangleOf}
-use Rattle.prism.specs.Elements.{prism, prismOf}
+use Rattle.tree.specs.Words
+use Rattle.line.specs.Elements.{line}
+use Rattle.triangle.specs.Elements.{triangle}
+use Rattle.prism.specs.Elements.{prism}
 use Rattle.leaves.specs.Leaves.{front}
-use Rattle.leaves.specs.Calls.{limit}
 use Rattle.format.specs.Reading.{Grid}
 use Rattle.reader.specs.Calls.{sizeOf}
-use Rattle.text.specs.Text.{longestOutput}
 use Rattle.results.specs.Results.{lineResult, triangleResult, prismResult, numberResult, truthResult, compareResult, passResult, gridResult, pointResult}
-use Rattle.results.specs.Laws.{Kind, lines, triangles, prisms, numbers, comparisons, words, grids, points, Result}
-use Rattle.results.proofs.Laws.{Fits, number-result, truth-result, compare-result, pass-result, grid-result, point-result, line-result, triangle-result, prism-result, shown-result}
-use Rattle.promises.specs.Demand1.{filed, OfCalls}
-use Rattle.promises.specs.OverC.{ElementsOverC, OverC}
-use Rattle.promises.proofs.Flat.{said, fits, flat, returns}
-use Rattle.promises.specs.Demand1 as demand1
+use Rattle.results.specs.Laws.{Kind, lines, triangles, prisms, numbers, comparisons, words, grids, points}
+use Rattle.results.proofs.Laws.{Result, number-result, truth-result, compare-result, pass-result, grid-result, point-result, line-result, triangle-result, prism-result, shown-result}
+use Rattle.promises.specs.OverC.{ElementsOverC, ListsOverC, OverC}
+use Rattle.promises.proofs.Flat.{said, flat, returns}
+use Rattle.promises.proofs.ElementCalls.{Rows}
+use Rattle.promises.proofs.ShapeCalls.{line-rows, triangle-rows, prism-rows}
+use Rattle.promises.proofs.ListCalls.{check-so, balanced-so, uniform-so, adapt-so, shares-so}
+use Rattle.promises.proofs.FileCalls.{read-so, write-so}
+use Rattle.promises.proofs.Demand1.{points-so, orders-so}
 
-module _ {E Q R : Type 0} (S : Shape E) (elementOf : Q → Outcome E) (faults : List ℕ) (kind : Kind R) (result : Outcome E → R) (is : Result kind result) where
-  on-elements : said faults ≡ true → demand1.OnElements S elementOf faults → ElementsOverC S kind result
+module _ {E R : Type 0} (S : Shape E) (faults : List ℕ) (kind : Kind R) (result : Outcome E → R) (is : Result kind result) where
+  on-elements : said faults ≡ true → Rows S faults → ElementsOverC S kind result faults
   unfolding said
-  on-elements known calls =
+  on-elements known refuses =
       record {
-        at = λ l p. returns kind result is _ (fits (1 ∷ 5 ∷ []) 0 _ refl (omega arith) (calls .at l p .refusals));
-        position = λ e. returns numbers numberResult number-result _ (fits faults 0 _ known (omega arith) (calls .position e .refusals));
-        parent = λ e. returns kind result is _ (fits (6 ∷ faults) 0 _ known (omega arith) (calls .parent e .refusals));
-        child = λ e i. returns kind result is _ (fits (7 ∷ 8 ∷ faults) 0 _ known (omega arith) (calls .child e i .refusals));
-        successor = λ e. returns kind result is _ (fits (9 ∷ faults) 0 _ known (omega arith) (calls .successor e .refusals));
-        first = λ e l. returns kind result is _ (fits (6 ∷ faults) 0 _ known (omega arith) (calls .first e l .refusals));
-        last = λ e l. returns kind result is _ (fits (6 ∷ faults) 0 _ known (omega arith) (calls .last e l .refusals));
-        neighbour = λ e i. returns kind result is _ (fits (8 ∷ 10 ∷ faults) 0 _ known (omega arith) (calls .neighbour e i .refusals));
-        family = λ equal es few.
-            returns numbers truthResult truth-result _ (fits (11 ∷ faults) (length es) _ known few (calls .family equal es .refusals));
-        compare = λ e f. returns comparisons compareResult compare-result _ (fits faults 1 _ known (omega arith) (calls .order e f .refusals));
+        at = λ l p. returns kind result is refl (refuses .at l p);
+        position = λ e. returns numbers numberResult number-result known (refuses .position e);
+        parent = λ e. returns kind result is known (refuses .parent e);
+        child = λ e i. returns kind result is known (refuses .child e i);
+        successor = λ e. returns kind result is known (refuses .successor e);
+        first = λ e l. returns kind result is known (refuses .descendant (Words.first S) e l);
+        last = λ e l. returns kind result is known (refuses .descendant (Words.last S) e l);
+        neighbour = λ e i. returns kind result is known (refuses .neighbour e i);
+        family = λ equal es. returns numbers truthResult truth-result known (refuses .family equal es);
+        compare = λ e f. returns comparisons compareResult compare-result known (refuses .order e f);
       }
 
 -- how many entries or bytes were written
 count-result : {A : Type 0} → Result numbers (λ (o : Outcome (List A)). numberResult (mapped length o))
 count-result = shown-result numbers numberResult length number-result
 
-pub over-c : OfCalls → OverC
+pub lists-over-c : ListsOverC
 unfolding said
-over-c calls =
+lists-over-c =
     record {
-      on-lines = on-elements line lineOf (1 ∷ 2 ∷ []) lines lineResult line-result refl (calls .on-lines);
-      on-triangles = on-elements triangle triangleOf (1 ∷ 2 ∷ 3 ∷ 4 ∷ []) triangles triangleResult triangle-result refl (calls .on-triangles);
-      on-prisms = on-elements prism prismOf (1 ∷ 2 ∷ 3 ∷ 4 ∷ []) prisms prismResult prism-result refl (calls .on-prisms);
-      on-lists = record {
-        check = λ k cs. returns words passResult pass-result _ (fits _ limit _ refl (omega arith) (lists .check k cs .refusals));
-        uniform = λ k level m. flat numbers _ count-result front _ m (fits _ limit _ refl (omega arith) (lists .uniform k level m .refusals));
-        balanced = λ k cs. returns numbers truthResult truth-result _ (fits _ limit _ refl (omega arith) (lists .balanced k cs .refusals));
-        adapt = λ k cs ms m. flat numbers _ count-result front _ m (fits _ limit _ refl (omega arith) (lists .adapt k cs ms m .refusals));
-        shares = λ k p cs ws m.
-            flat words _ (shown-result words passResult (λ (boundaries : List ℕ). tt) pass-result) written _ m
-            (fits _ limit _ refl (omega arith) (lists .shares k p cs ws m .refusals));
-        write = λ k cs m. flat numbers _ count-result written _ m (fits _ filed _ refl (omega arith) (lists .write k cs m .refusals));
-        read = λ bytes m.
-            flat grids _ (shown-result grids gridResult sizeOf grid-result) (λ (g : Grid). front (g .leaves)) _ m
-            (fits _ filed _ refl (omega arith) (lists .read bytes m .refusals));
-      };
-      on-points = λ l p i r. returns points pointResult point-result _ (fits (1 ∷ 5 ∷ 8 ∷ 24 ∷ []) 0 _ refl (omega arith) (calls .on-points l p i r .refusals));
-      on-orders = λ input m. flat numbers _ count-result written _ m (fits (14 ∷ []) longestOutput _ refl (omega arith) (calls .on-orders input m .refusals));
+      check = λ k cs. returns words passResult pass-result refl (check-so k cs);
+      uniform = λ k level m. flat numbers _ count-result front refl (uniform-so k level m);
+      balanced = λ k cs. returns numbers truthResult truth-result refl (balanced-so k cs);
+      adapt = λ k cs ms m. flat numbers _ count-result front refl (adapt-so k cs ms m);
+      shares = λ k p cs ws m. flat words _ (shown-result words passResult (λ (boundaries : List ℕ). tt) pass-result) written refl (shares-so k p cs ws m);
+      write = λ k cs m. flat numbers _ count-result written refl (write-so k cs m);
+      read = λ bytes m. flat grids _ (shown-result grids gridResult sizeOf grid-result) (λ (g : Grid). front (g .leaves)) refl (read-so bytes m);
     }
-  where
-    lists : demand1.OnLists
-    lists = calls .on-lists
+
+pub over-c : OverC
+unfolding said
+over-c =
+    record {
+      on-lines = on-elements line (1 ∷ 2 ∷ []) lines lineResult line-result refl line-rows;
+      on-triangles = on-elements triangle (1 ∷ 2 ∷ 3 ∷ 4 ∷ []) triangles triangleResult triangle-result refl triangle-rows;
+      on-prisms = on-elements prism (1 ∷ 2 ∷ 3 ∷ 4 ∷ []) prisms prismResult prism-result refl prism-rows;
+      on-lists = lists-over-c;
+      on-points = λ l p i r. returns points pointResult point-result refl (points-so l p i r);
+      on-orders = λ input m. flat numbers _ count-result written refl (orders-so input m);
+      low = record { of-lists = omega arith; of-files = omega arith; of-orders = omega arith };
+    }

@@ -3,17 +3,19 @@
 --
 -- That it never depends on a check before is that no public function has a `requires`; `.ci/run` looks for one. The rest is said here of every call
 -- that answers a refusal or is lent memory to write into, by its contract. Every other public function has a contract `r ≡ ..`, with nothing
--- of r on the right, so that two of its results are equal. The same over C is `OverC.antt`.
+-- of r on the right, so that two of its results are equal, but `promised`, which answers nothing. The same over C is `OverC.antt`.
 --
---   Call f ns most o m C   a call with the outcome o and the contract C that finds the memory m: two runs have the same answer and leave the same
---                          memory; where the answer's reading f is a refusal, the memory is what it was; and a refusal has one of the numbers
---                          ns, and a place up to `most`
+--   Call f ns most m C     a call with the contract C that finds the memory m: two runs have the same answer and leave the same memory; where the
+--                          answer's reading f is a refusal, the memory is what it was, its number is one of ns, and its place at most `most`
 --   Answer f ns most o     the same for a call that is lent nothing to write into: its contract is that its answer's reading is o
 --   OnElements S f fs      the calls on the elements of a shape; fs are the numbers of the checks on an element, 1 among them, which is also that
 --                          of a level asked for
---   filed                  no offset in a sound part of a file is larger: four bytes, K, R, and at most 1,048,576 runs of two numbers of three bytes
+--   filed                  no offset in a file up to its first fault, and no file's length, is larger: four bytes, K, R, and at most 1,048,576
+--                          runs of two numbers of three bytes
 --   OnLists                the calls on lists and files
---   OnParts                the calls that those are made of
+--   OnParts                functions that only this house calls: order of `tree`, check of `marks`, number_at of `numbers`, head_at and sound of
+--                          `sounding`, lay of `columns`, number of `fields`, print of `text`. The last is no call of the paper: it writes what
+--                          has room, and answers how many bytes there are. Their words stand in `Inner.antt` of their crates
 --   OfCalls                demand 1
 --
 -- Assumes nothing.
@@ -57,13 +59,13 @@ use Rattle.fields.specs.Inner as fields
 use Rattle.forms.specs.Forms as forms
 use Rattle.promises.specs.Refusals.{Refuses}
 
-pub record Call {R A B M : Type 0} (reading : R → Outcome B) (numbers : List ℕ) (most : ℕ) (due : Outcome A) (m : M) (C : R → M → Type 0) : Type 0 where
+pub record Call {R B M : Type 0} (reading : R → Outcome B) (numbers : List ℕ) (most : ℕ) (m : M) (C : R → M → Type 0) : Type 0 where
   pub one : Decided C
   pub spared : Spared reading m C
-  pub refusals : Refuses numbers most due
+  pub refusals : (r : R) (m′ : M) → C r m′ → Refuses numbers most (reading r)
 
 abbrev pub Answer : {R A : Type 0} → (R → Outcome A) → List ℕ → ℕ → Outcome A → Type 0
-Answer {R} reading numbers most due = Call {M = Unit {0}} reading numbers most due tt (λ (r : R) (m′ : Unit {0}). reading r ≡ due)
+Answer {R} reading numbers most due = Call {M = Unit {0}} reading numbers most tt (λ (r : R) (m′ : Unit {0}). reading r ≡ due)
 
 -- ---- elements
 pub record OnElements {E R : Type 0} (S : Shape E) (elementOf : R → Outcome E) (faults : List ℕ) : Type 0 where
@@ -85,29 +87,29 @@ filed = 10 + 6 * limit
 pub record OnLists : Type 0 where
   pub check : (k : ℕ) (cs : Columns) → Answer passOf (17 ∷ 11 ∷ 1 ∷ 5 ∷ 12 ∷ []) limit (checkList CHILDREN HIGHEST k cs)
   pub uniform : (k level : ℕ) (m : Columns)
-      → Call valueOf (17 ∷ 11 ∷ 1 ∷ 15 ∷ 14 ∷ []) limit (uniform CHILDREN HIGHEST k level m) m (λ r m′. Started k level r m m′)
+      → Call valueOf (17 ∷ 11 ∷ 1 ∷ 15 ∷ 14 ∷ []) limit m (λ r m′. Started k level r m m′)
   pub balanced : (k : ℕ) (cs : Columns) → Answer truthOf (17 ∷ 11 ∷ 1 ∷ 5 ∷ 12 ∷ []) limit (balanced CHILDREN HIGHEST k cs)
   pub adapt : (k : ℕ) (cs : Columns) (ms : List ℕ) (m : Columns)
-      → Call valueOf (17 ∷ 11 ∷ 1 ∷ 5 ∷ 12 ∷ 13 ∷ 7 ∷ 15 ∷ 14 ∷ []) limit (adapt CHILDREN HIGHEST k cs ms m) m (λ r m′. Adapted k r cs ms m m′)
+      → Call valueOf (17 ∷ 11 ∷ 1 ∷ 5 ∷ 12 ∷ 13 ∷ 7 ∷ 15 ∷ 14 ∷ []) limit m (λ r m′. Adapted k r cs ms m m′)
   pub shares : (k p : ℕ) (cs : Columns) (ws m : List ℕ)
-      → Call passOf (17 ∷ 11 ∷ 1 ∷ 5 ∷ 12 ∷ 16 ∷ 14 ∷ []) limit (shares CHILDREN HIGHEST k p cs ws m) m (λ r m′. Shared k p r cs ws m m′)
+      → Call passOf (17 ∷ 11 ∷ 1 ∷ 5 ∷ 12 ∷ 16 ∷ 14 ∷ []) limit m (λ r m′. Shared k p r cs ws m m′)
   pub write : (k : ℕ) (cs : Columns) (m : List ℕ)
-      → Call valueOf (17 ∷ 11 ∷ 1 ∷ 5 ∷ 12 ∷ 14 ∷ []) filed (write CHILDREN HIGHEST k cs m) m (λ r m′. FileWritten k r cs m m′)
+      → Call valueOf (17 ∷ 11 ∷ 1 ∷ 5 ∷ 12 ∷ 14 ∷ []) filed m (λ r m′. FileWritten k r cs m m′)
   pub read : (bytes : List ℕ) (m : Columns)
-      → Call gridOf (11 ∷ 18 ∷ 19 ∷ 20 ∷ 17 ∷ 21 ∷ 1 ∷ 15 ∷ 12 ∷ 22 ∷ 14 ∷ []) filed (read CHILDREN HIGHEST bytes m) m (λ r m′. FileRead bytes r m m′)
+      → Call gridOf (11 ∷ 18 ∷ 19 ∷ 20 ∷ 17 ∷ 21 ∷ 1 ∷ 15 ∷ 12 ∷ 22 ∷ 14 ∷ []) filed m (λ r m′. FileRead bytes r m m′)
 
 pub record OnParts : Type 0 where
   pub order : (first level second other : ℕ) → Answer comparisonOf [] 0 (accepted (compared first second (compared level other same)))
-  pub marks : (highest : ℕ) (ls ms : List ℕ)
-      → Call {M = Unit {0}} checksOf (11 ∷ 13 ∷ 7 ∷ []) (length ms) (checkMarks highest ls ms) tt (λ r m′. Finds r (checkMarks highest ls ms))
-  pub number : (bytes : List ℕ) (i : ℕ) → Answer foundOf (19 ∷ 20 ∷ []) i (numberAt bytes i)
-  pub front : (bytes : List ℕ) → Answer headOf (18 ∷ 19 ∷ 20 ∷ 17 ∷ 21 ∷ []) 6 (headAt bytes)
+  pub check-marks : (highest : ℕ) (ls ms : List ℕ)
+      → Call {M = Unit {0}} checksOf (11 ∷ 13 ∷ 7 ∷ []) (length ms) tt (λ r m′. Finds r (checkMarks highest ls ms))
+  pub number-at : (bytes : List ℕ) (i : ℕ) → Answer foundOf (19 ∷ 20 ∷ []) i (numberAt bytes i)
+  pub head-at : (bytes : List ℕ) → Answer headOf (18 ∷ 19 ∷ 20 ∷ 17 ∷ 21 ∷ []) 6 (headAt bytes)
   pub sound : (bytes : List ℕ) (h : Head)
-      → Call {M = Unit {0}} (λ (r : Sounding). checksOf (r .fault)) (19 ∷ 20 ∷ 1 ∷ 21 ∷ 15 ∷ 12 ∷ 22 ∷ []) (h .next + 6 * h .runs) (sound CHILDREN HIGHEST bytes h .fault) tt
+      → Call {M = Unit {0}} (λ (r : Sounding). checksOf (r .fault)) (19 ∷ 20 ∷ 1 ∷ 21 ∷ 15 ∷ 12 ∷ 22 ∷ []) (h .next + 6 * h .runs) tt
       (λ r m′. Tells r (sound CHILDREN HIGHEST bytes h))
-  pub stretch : (at k root level position : ℕ) (m : Columns) → Decided (λ count m′. Laid at k root level position count m m′)
-  pub field : (f : List ℕ) → Answer valueOf (23 ∷ []) 0 (fields.number f)
-  pub printed : (bytes m : List ℕ) → Decided (λ end m′. Put bytes 0 m m′ end)
+  pub lay : (at k root level position : ℕ) (m : Columns) → Decided (λ count m′. Laid at k root level position count m m′)
+  pub number : (f : List ℕ) → Answer valueOf (23 ∷ []) 0 (fields.number f)
+  pub print : (bytes m : List ℕ) → Decided (λ end m′. Put bytes 0 m m′ end)
 
 pub record OfCalls : Type 0 where
   pub on-lines : OnElements line lineOf (1 ∷ 2 ∷ [])
@@ -115,7 +117,7 @@ pub record OfCalls : Type 0 where
   pub on-prisms : OnElements prism prismOf (1 ∷ 2 ∷ 3 ∷ 4 ∷ [])
   pub on-lists : OnLists
   pub on-points : (l p i : ℕ) (r : Root) → Answer pointOf (1 ∷ 5 ∷ 8 ∷ 24 ∷ []) 0 (cornerPoint l p i r)
-  pub on-orders : (input m : List ℕ) → Call valueOf (14 ∷ []) longestOutput (answer input (length m)) m (λ r m′. Answered r input m m′)
+  pub on-orders : (input m : List ℕ) → Call valueOf (14 ∷ []) longestOutput m (λ r m′. Answered r input m m′)
   pub on-forms : (input : List ℕ) → Answer formOf (1 ∷ 15 ∷ 17 ∷ 23 ∷ []) 8 (forms.read input)
   pub field-from-1 : (input : List ℕ) (number field : ℕ) → forms.read input ≡ refused number field → 1 ≤ field
   pub on-parts : OnParts

@@ -8,8 +8,8 @@
 --   HandedBack    "no call refuses it by 1 to 4": what a call can refuse a sound element by
 --   Elements      what is promised of one shape, with its index and its corner points
 --   OfElements    of the elements of all three shapes
---   OfLists       of leaf lists: the list check is exact, and so is what any list call accepts; each smallest cell lies in one leaf; a leaf's
---                 relatives are the prism's; adaption is the paper's one pass, boundaries are the paper's, balanced is the paper's
+--   OfLists       of leaf lists and their calls: when each call accepts, and with what (`Accepts.antt`); each smallest cell lies in one leaf, and the
+--                 leaves stand along the curve; a leaf's relatives are the prism's; adaption is the paper's one pass, boundaries are the paper's
 --   OfFiles       of grid files: "a list has one file and a file one list", and writing and reading undo each other
 --   Demand2       all of it, with corner points (the exact value and no other, the bound, the root's own corners, one point for one local corner)
 --                 and orders (the first 71 bytes decide, its shares are the list's own, its numbers read back, its output has room)
@@ -37,11 +37,9 @@ use Rattle.prism.specs.Points.{Corner}
 use Rattle.index.specs.Bey.{Bey}
 use Rattle.index.specs.Index.{lineIndex, triangleIndex, prismIndex}
 use Rattle.index.specs.Rank.{Ranked}
-use Rattle.leaves.specs.Leaves.{CHILDREN, Leaf}
-use Rattle.leaves.specs.Laws.{ListCall}
+use Rattle.leaves.specs.Leaves.{CHILDREN}
 use Rattle.leaves.specs.Cells.{CellLaws}
 use Rattle.adaption.specs.Laws.{Relatives}
-use Rattle.balance.specs.Balance.{ExactBalance}
 use Rattle.numbers.specs.Laws.{Codec}
 use Rattle.format.specs.Laws.{OneFile}
 use Rattle.gridfile.specs.Laws.{RoundTrip}
@@ -54,6 +52,7 @@ use Rattle.shares.specs.Laws as shares
 use Rattle.corners.specs.Laws as corners
 use Rattle.orders.specs.Laws as orders
 use Rattle.promises.specs.Refusals.{Refuses}
+use Rattle.promises.specs.Accepts as lists
 
 pub record Figure (E P : Type 0) : Type 0 where
   pub corner : E → ℕ → P
@@ -129,16 +128,12 @@ pub record OfElements : Type 0 where
   pub refusal-4-of-prisms : prism-points.Refusal4 HIGHEST
 
 pub record OfLists : Type 0 where
+  pub accepts : lists.Accepts
   pub listed : leaves.Promised CHILDREN HIGHEST
-  pub of-check : ListCall CHILDREN HIGHEST (Unit {0})
-  pub of-balanced : ListCall CHILDREN HIGHEST Bool
-  pub of-adapt : ListCall CHILDREN HIGHEST (List Leaf)
-  pub of-shares-and-write : ListCall CHILDREN HIGHEST (List ℕ)
   pub cells : CellLaws prism
   pub relatives : Relatives prism
   pub adapted : adaption.Promised CHILDREN HIGHEST
   pub shared : shares.Promised
-  pub balanced : ExactBalance
 
 pub record OfFiles : Type 0 where
   pub numbers : Codec

@@ -1,10 +1,10 @@
 pub mod Refusals
 pub mod Demand1
 pub mod OverC
+pub mod Accepts
 pub mod Demand2
 pub mod Demand3
 pub mod InMemory
 pub mod Starred
 pub mod Promises
 pub mod Constants
-pub mod Accepts

@@ -1,18 +1,24 @@
 -- A word tells its outcome, and each result is of its kind. Assumes nothing.
-use mathlib.Core.Path.{_≡_, refl, ap, _∙_, sym}
+use mathlib.Core.Path.{_≡_, refl, ap, _∙_, sym, subst}
 use mathlib.Core.Bool.{Bool, true, false}
 use mathlib.Core.List.{List}
 use Prim.Native.Nat.{ℕ, _+_, _*_, _/_, _%_, _^_, _≤_, _<_}
+use native.Mathlib.Nat.{mod-le}
 use native.Mathlib.Omega.{arith}
 use lib.ListN.{length}
 use Rattle.paper.specs.Outcome.{Outcome, accepted, refused, mapped, Order, less, same, greater}
 use Rattle.paper.proofs.Scan.{never}
 use Rattle.results.specs.Results.{word, lineResult, triangleResult, prismResult, numberResult, truthResult, compareResult, passResult, gridResult, pointResult}
-use Rattle.results.specs.Laws.{Kind, lines, triangles, prisms, numbers, comparisons, points, grids, words, Word, Result}
+use Rattle.results.specs.Laws.{Kind, lines, triangles, prisms, numbers, comparisons, points, grids, words, Word}
+
+-- f gives the results of a kind: the word is that of the outcome, and on a refusal every other field is 0
+pub record Result {A R : Type 0} (kind : Kind R) (result : Outcome A → R) : Type 0 where
+  pub worded : (o : Outcome A) → kind .refusal (result o) ≡ word o
+  pub blanked : (number place : ℕ) → result (refused number place) ≡ kind .blank (word {A = A} (refused number place))
 
 -- what a word can hold
 abbrev pub Fits : {A : Type 0} → Outcome A → Type 0
-Fits o = (number place : ℕ) → o ≡ refused number place → (1 ≤ number) × ((number < 256) × (place < 2 ^ 56))
+Fits o = (number place : ℕ) → o ≡ refused number place → (1 ≤ number) × (number < 256)
 
 low-place : (place : ℕ) → place < 2 ^ 56 → place % 2 ^ 56 ≡ place
 low-place place low = omega arith
@@ -22,16 +28,16 @@ word-tells {A} (accepted a) fits =
     record {
       accepts = (λ e. (a, refl), λ found. refl);
       number = λ number place e. never a number place (sym e);
-      place = λ number place e. never a number place (sym e);
+      place = λ number place e low. never a number place (sym e);
     }
 word-tells {A} (refused k at) fits =
     record {
       accepts = (λ e. absurd (not-none e), λ found. never (found .0) k at (found .1));
       number = λ number place e. low-number ∙ ap numberOf e;
-      place = λ number place e. high-place ∙ ap placeOf e;
+      place = λ number place e low. high-place (subst (λ (i : ℕ). i < 2 ^ 56) (sym (ap placeOf e)) low) ∙ ap placeOf e;
     }
   where
-    held : (1 ≤ k) × ((k < 256) × (at < 2 ^ 56))
+    held : (1 ≤ k) × (k < 256)
     held = fits k at refl
 
     numberOf : Outcome A → ℕ
@@ -46,10 +52,14 @@ word-tells {A} (refused k at) fits =
     not-none e = omega (arith, held .0)
 
     low-number : (at % 2 ^ 56 * 256 + k) % 256 ≡ k
-    low-number = let narrow = held .1 .0 in omega arith
+    low-number = let narrow = held .1 in omega arith
 
-    high-place : (at % 2 ^ 56 * 256 + k) / 256 ≡ at
-    high-place = let narrow = held .1 .0 in let low = low-place at (held .1 .1) in omega arith
+    high-place : at < 2 ^ 56 → (at % 2 ^ 56 * 256 + k) / 256 ≡ at
+    high-place below = let narrow = held .1 in let low = low-place at below in omega arith
+
+-- a refusal's number is what it was, and its place no larger
+pub word-parts : (A : Type 0) (number place : ℕ) → number < 256 → (word {A = A} (refused number place) % 256 ≡ number) × (word {A = A} (refused number place) / 256 ≤ place)
+word-parts A number place narrow = let low : place % 2 ^ 56 ≤ place = mod-le place (2 ^ 56) in (omega arith, omega arith)
 
 -- ---- each kind
 pub line-result : Result lines lineResult

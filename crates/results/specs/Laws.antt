@@ -3,14 +3,14 @@
 --   Kind R        a kind of result: its word, and the result of a word whose every other field is 0
 --   lines, triangles, prisms, numbers, comparisons, points, grids, words
 --                 the kinds; words: of a call with no value, the word alone
---   Word o w      w is a word for the outcome o: 0 exactly when it is accepted; a refusal's number and place are read back by % and /
---   Result k f    f gives the results of kind k: the word is that of the outcome, and on a refusal every other field is 0
+--   Word o w      w is a word for the outcome o: 0 exactly when it is accepted; a refusal's number is read back by % 256, and its place, where it is
+--                 below 2^56, by / 256
 --
 -- Assumes nothing.
 use mathlib.Core.Path.{_≡_}
 use mathlib.Core.Logic.{_↔_}
 use mathlib.Core.Bool.{false}
-use Prim.Native.Nat.{ℕ, _/_, _%_}
+use Prim.Native.Nat.{ℕ, _/_, _%_, _^_, _<_}
 use lib.IntN.{pos}
 use lib.Ieee.{fin}
 use Rattle.paper.specs.Outcome.{Outcome, accepted, refused}
@@ -21,7 +21,6 @@ use Rattle.results.specs.declared.NumberResult.{NumberResult}
 use Rattle.results.specs.declared.CompareResult.{CompareResult}
 use Rattle.results.specs.declared.PointResult.{PointResult}
 use Rattle.results.specs.declared.GridResult.{GridResult}
-use Rattle.results.specs.Results.{word}
 
 pub record Kind (R : Type 0) : Type 0 where
   pub refusal : R → ℕ
@@ -57,8 +56,4 @@ words = record { refusal = λ r. r; blank = λ w. w }
 pub record Word {A : Type 0} (o : Outcome A) (w : ℕ) : Type 0 where
   pub accepts : w ≡ 0 ↔ ((a : A) × (o ≡ accepted a))
   pub number : (number place : ℕ) → o ≡ refused number place → w % 256 ≡ number
-  pub place : (number place : ℕ) → o ≡ refused number place → w / 256 ≡ place
-
-pub record Result {A R : Type 0} (kind : Kind R) (result : Outcome A → R) : Type 0 where
-  pub worded : (o : Outcome A) → kind .refusal (result o) ≡ word o
-  pub blanked : (number place : ℕ) → result (refused number place) ≡ kind .blank (word {A = A} (refused number place))
+  pub place : (number place : ℕ) → o ≡ refused number place → place < 2 ^ 56 → w / 256 ≡ place

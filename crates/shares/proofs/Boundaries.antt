@@ -13,8 +13,8 @@ use lib.ListN.{length, take, getD}
 use borrow.Author.Tests.{leb-true, le-leb}
 use Rattle.leaves.proofs.Span.{more-mul}
 use Rattle.shares.specs.Shares.{total, largest, boundary, weight, heaviest}
-use Rattle.shares.specs.Laws.{Largest, InShare, OneShare, Fair, Weighty}
-use Rattle.shares.proofs.Largest.{largest-of, largest-is}
+use Rattle.shares.specs.Laws.{InShare, OneShare, Fair, Weighty}
+use Rattle.shares.proofs.Largest.{Largest, largest-of, largest-is}
 use Rattle.shares.proofs.Sums.{total-next, total-all, total-slice, count-le-total, weight-le-heaviest}
 
 module _ (P : ℕ) (ws : List ℕ) where
@@ -35,7 +35,7 @@ module _ (P : ℕ) (ws : List ℕ) where
       boundary-largest (s + 1) .none-above b (boundary-largest s .within)
       (le-leb (P * total (take b ws)) ((s + 1) * total ws) (omega (arith, boundary-under s, more-mul s (total ws))))
 
-  boundary-monotone : (s t : ℕ) → s ≤ t → boundary P ws s ≤ boundary P ws t
+  pub boundary-monotone : (s t : ℕ) → s ≤ t → boundary P ws s ≤ boundary P ws t
   boundary-monotone s t = le-ind (λ (t : ℕ). boundary P ws s ≤ boundary P ws t) (omega arith) step t
     where
       step : (t : ℕ) → s ≤ t → boundary P ws s ≤ boundary P ws t → boundary P ws s ≤ boundary P ws (suc t)

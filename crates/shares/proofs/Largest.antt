@@ -5,7 +5,12 @@ use mathlib.Core.Bool.{Bool, true, false, cond, true≢false}
 use Prim.Native.Nat.{ℕ, zero, suc, _≤_}
 use native.Mathlib.Omega.{arith}
 use Rattle.shares.specs.Shares.{largest}
-use Rattle.shares.specs.Laws.{Largest}
+
+-- j is the largest number up to m that passes the test
+pub record Largest (m : ℕ) (test : ℕ → Bool) (j : ℕ) : Type 0 where
+  pub within : j ≤ m
+  pub passes : test j ≡ true
+  pub none-above : (i : ℕ) → i ≤ m → test i ≡ true → i ≤ j
 
 module _ (test : ℕ → Bool) where
   -- ---- one number more

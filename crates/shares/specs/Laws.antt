@@ -1,6 +1,5 @@
 -- What is promised of shares, as statements. Definitions only.
 --
---   Largest m test j   j is the largest number up to m that passes the test
 --   Boundary P ws s j  j is "the largest leaf count j whose first j weights sum to S with P·S <= s·W"
 --   InShare P ws s j   leaf j lies in share s
 --   OneShare P ws j    leaf j lies in exactly one of the P shares
@@ -12,17 +11,11 @@
 --
 -- Assumes nothing.
 use mathlib.Core.Path.{_≡_}
-use mathlib.Core.Bool.{Bool, true}
 use mathlib.Core.List.{List}
 use Prim.Native.Nat.{ℕ, _+_, _*_, _/_, _≤_, _<_}
 use lib.ListN.{length, getD, take, replicate}
 use Rattle.paper.specs.Exactly.{ExactlyOne}
 use Rattle.shares.specs.Shares.{total, boundary, boundaries, weight, heaviest}
-
-pub record Largest (m : ℕ) (test : ℕ → Bool) (j : ℕ) : Type 0 where
-  pub within : j ≤ m
-  pub passes : test j ≡ true
-  pub none-above : (i : ℕ) → i ≤ m → test i ≡ true → i ≤ j
 
 module _ (P : ℕ) (ws : List ℕ) where
   pub record Boundary (s j : ℕ) : Type 0 where
