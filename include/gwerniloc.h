@@ -9,17 +9,18 @@
  * Every call takes any values at all. The library has no state and allocates nothing: any thread may call it at any time,
  * and 16 KB of stack are enough.
  *
- * Columns. A column is a pointer and a length. The pointer must not be NULL, also where the length is 0; the columns of one
- * list have one length. A const column is only read; any other is written at its front by an accepted call, and a refused
- * call leaves it as it was. A column that is written must overlap no other column of the call.
+ * Columns. A column is a pointer and a length. The pointer must not be NULL, also where the length is 0, and that many entries
+ * must stand there; unequal columns of one list are refused, 11. A const column is only read; any other is written at its
+ * front by an accepted call, and a refused call leaves it as it was. A column that is written must overlap no other column of
+ * the call.
  *
  * Answers. An answer has refusal 0 and the value, or a refusal and a value of zeros. A refusal is place * 256 + number; the
  * numbers are those of gw_refusal_number. The place is 0, except that
- *   - compare and family give the index of the element at fault,
+ *   - compare and family give the index of the element at fault (modulo 2^56),
  *   - a list call gives the number of the leaf with 1, 5, 7, 12, 13 and 16, and with 12 of a list that ends early its
  *     length (a uniform start has no leaf yet: its 1 has place 0),
  *   - 14 gives the entries or bytes needed,
- *   - reading a file gives an offset into it.
+ *   - reading a file gives an offset into it, except with 11 and 14.
  * Each call below names its refusals in the order of its tests; the first that applies is given. */
 #ifndef GWERNILOC_H
 #define GWERNILOC_H

@@ -1,6 +1,6 @@
 -- Document 01, "Leaf lists": "Adaption: one mark a leaf, 0 keep, 1 refine, 2 merge." n is the number of children. Definitions only.
 --
---   child, parent    of a leaf, by its position: `Positions` of `tree` ties them to the elements
+--   child, parent    of a leaf, by its position: `Relatives` of `Laws.antt` ties them to the elements
 --   childrenOf v     "A refined leaf gives its eight children."
 --   family vs j      the n leaves from number j on "are a family": the children of one leaf, in order
 --   merging vs ms j  "Eight consecutive leaves that are a family and all carry 2", from number j on

@@ -2,6 +2,7 @@
 -- halved in height and its base is divided as in definition 3. Definitions only.
 --
 --   Midpoint m a b     m lies half way between a and b; PrismMidpoint m a b the same of corners of a prism, in plan and in height
+--   Ends, ends i j     two corner numbers, whose midpoint is meant
 --   beyChild i         the thesis's definition 3: the corners of Bey's child i, as pairs of the parent's corner numbers whose
 --                      midpoints they are (its T0 reads x2 where x02 is meant)
 --   beyNumber t i      which of Bey's children is child i by curve number, of a parent of type t: "Bey's numbers are not curve numbers"

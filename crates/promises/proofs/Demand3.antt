@@ -1,26 +1,19 @@
 -- Demand 3: the cells are those of a valid list, the shares are fair, and an accepted call of shares found both. Assumes nothing.
-use mathlib.Core.Path.{_≡_, _∙_, sym, subst}
-use mathlib.Core.Bool.{true, not}
+use mathlib.Core.Path.{_≡_, subst}
 use mathlib.Core.List.{List}
 use Prim.Native.Nat.{ℕ, _+_, _<_}
 use native.Mathlib.Omega.{arith}
-use lib.Dec.{ltb, eqb}
-use lib.ListN.{length, getD}
-use borrow.Author.Tests.{eqb-true, eqb-false, not-true}
-use Rattle.paper.specs.Outcome.{Outcome, accepted}
-use Rattle.paper.proofs.Tests.{no-fault}
-use Rattle.paper.proofs.Scan.{accepted-of, scan-accepted, scan-each}
+use lib.ListN.{length}
+use Rattle.paper.specs.Outcome.{accepted}
 use Rattle.prism.specs.Elements.{prismTo, prism}
-use Rattle.leaves.specs.Leaves.{Leaf, Columns, leaves, columnsOf, room, Valid}
-use Rattle.leaves.specs.Calls.{outOfRange}
+use Rattle.leaves.specs.Leaves.{Leaf, Columns, leaves, columnsOf, Valid}
 use Rattle.leaves.specs.Laws.{ValidList}
 use Rattle.leaves.proofs.Ancestors.{cell-laws}
 use Rattle.leaves.proofs.Entries.{some-leaf, leaves-of-columns}
 use Rattle.leaves.proofs.UniformValid.{uniform-listed}
-use Rattle.leaves.proofs.Listed.{in-range, columns-sound, listed-accepted, listed-fits}
 use Rattle.leaves.proofs.Columns.{leaves-length}
 use Rattle.shares.specs.Shares.{boundaries}
-use Rattle.shares.specs.Calls.{weightFault, shares}
+use Rattle.shares.specs.Calls.{shares}
 use Rattle.shares.specs.Laws.{Fair, Weighty}
 use Rattle.prism.proofs.Laws as prism-laws
 use Rattle.adaption.proofs.Promised.{steps-valid}
@@ -28,6 +21,7 @@ use Rattle.shares.proofs.Boundaries.{boundary-monotone}
 use Rattle.shares.proofs.Promised as shares-laws
 use Rattle.gridfile.proofs.RoundTrip.{loads-list}
 use Rattle.promises.specs.Demand3.{Begun, started, loaded, Reached, Divided, OfGrids}
+use Rattle.promises.proofs.Accepts.{accepts}
 
 of-list : (K P : ℕ) (vs : List Leaf) (ws : List ℕ) → Valid 8 21 K vs → 0 < length vs → length ws ≡ length vs → Weighty ws → 0 < P → Divided K P vs ws
 unfolding prismTo
@@ -48,32 +42,14 @@ of-list K P vs ws valid some long weighty positive = by (shares-laws.promised .f
               (omega (arith, to .to, boundary-monotone P ws (t + 1) P (omega arith), fair .to-all));
         }
 
--- the tests that an accepted call of shares has passed
-shares-some : (P : ℕ) → not (outOfRange P) ≡ true → 0 < P
-shares-some P right = in-range P (not-true (outOfRange P) right) .0
-
-weight-some : (w : ℕ) → weightFault w ≡ 0 → 0 < w
-weight-some w right = above (eqb-false w 0 (no-fault (eqb w 0) 15 0 right .0))
-  where
-    above : {m : ℕ} → (m ≡ 0 → ⊥) → 0 < m
-    above {m} none = omega arith
-
 pub of-accepted : (K P : ℕ) (cs : Columns) (ws column bs : List ℕ) → shares 8 21 K P cs ws column ≡ accepted bs
     → (bs ≡ boundaries P ws) × Divided K P (leaves cs) ws
 of-accepted K P cs ws column bs h =
-    let inside = listed-accepted 8 21 K (not (outOfRange P)) (eqb (room cs) (length ws)) cs _ bs h in
-    let fits = listed-fits 8 21 K (not (outOfRange P)) (eqb (room cs) (length ws)) cs _ bs h in
-    let sound = columns-sound 8 21 K (not (outOfRange P)) (eqb (room cs) (length ws)) cs (inside .0) in
-    let weights = scan-accepted weightFault 0 ws _ bs (inside .1) in
-    let enough = accepted-of (ltb (length column) (P + 1)) 14 (P + 1) _ bs (weights .1) in
-    let long = eqb-true (room cs) (length ws) (fits .1) in (
-      sym (accepted-same (enough .1)),
-      of-list K P (leaves cs) ws (sound .valid) (omega (arith, sound .some, leaves-length cs)) (omega (arith, long, leaves-length cs))
-          (λ j below. weight-some (getD ws j 0) (scan-each weightFault 0 ws 0 j (weights .0) below)) (shares-some P (fits .0)),
+    let d = accepts .shares K P cs ws column bs .0 h in
+    let list = d .list in (
+      d .result,
+      of-list K P (leaves cs) ws (list .valid) (omega (arith, list .some, leaves-length cs)) (omega (arith, d .weighed, leaves-length cs)) (d .weighty) (d .some-share),
     )
-  where
-    accepted-same : {A : Type 0} {a b : A} → _≡_ {A = Outcome A} (accepted a) (accepted b) → a ≡ b
-    accepted-same e = cc
 
 -- ---- a grid that is reached
 begun-list : (K : ℕ) (vs : List Leaf) → Begun K vs → ValidList 8 21 K (columnsOf vs)

@@ -1,10 +1,8 @@
 -- What an accepted call leaves in the lent memory: the first entries are its list, or its boundaries. Assumes nothing.
 use mathlib.Core.Path.{_≡_, refl, ap, ap₂, _∙_, sym, subst}
-use mathlib.Core.Bool.{true, not, _&&_}
 use mathlib.Core.List.{List}
-use Prim.Native.Nat.{ℕ, _+_, _*_, _^_}
+use Prim.Native.Nat.{ℕ, _+_}
 use native.Mathlib.Omega.{arith}
-use lib.Dec.{ltb, eqb}
 use lib.ListN.{length, take, drop}
 use lib.Seq.{take-append-seam}
 use Rattle.paper.specs.Outcome.{Outcome, accepted, mapped}
@@ -12,14 +10,10 @@ use Rattle.paper.specs.Memory.{written, left, Fulfils}
 use Rattle.paper.specs.Readings.{valueOf, passOf}
 use Rattle.paper.specs.declared.NumberAnswer.{NumberAnswer}
 use Rattle.paper.proofs.Memory.{gave}
-use Rattle.paper.proofs.Scan.{accepted-of, scan-accepted}
-use Rattle.leaves.specs.Leaves.{Leaf, Columns, leaves, columnsOf, equalColumns, room, firstEntries, front, uniformList}
-use Rattle.leaves.specs.Calls.{limit, outOfRange, uniform}
+use Rattle.leaves.specs.Leaves.{Leaf, Columns, leaves, columnsOf, firstEntries, front, uniformList}
+use Rattle.leaves.specs.Calls.{uniform}
 use Rattle.leaves.specs.Laws.{ValidList}
 use Rattle.leaves.proofs.Columns.{first-of}
-use Rattle.leaves.proofs.Listed.{listed-accepted, room-gives}
-use Rattle.marks.specs.Marks.{markFault, depthFault}
-use Rattle.marks.specs.Marks as marks
 use Rattle.leaves.proofs.Entries.{leaves-of-columns}
 use Rattle.leaves.proofs.UniformValid.{uniform-listed}
 use Rattle.adaption.specs.Adaption.{adapted}
@@ -42,6 +36,7 @@ use Rattle.interface.specs.Calls.{countOf}
 use Rattle.promises.specs.Demand3.{Divided}
 use Rattle.promises.specs.InMemory.{InMemory, InMemoryOverC}
 use Rattle.promises.specs.OverC.{Flat, ListsOverC}
+use Rattle.promises.proofs.Accepts.{accepts}
 use Rattle.promises.proofs.Demand3.{of-accepted}
 
 -- ---- what stands in front
@@ -73,23 +68,6 @@ front-grid bytes m m′ g K N is kept roots long =
       here .1,
     )
 
--- ---- which list is given
-started-list : (k level : ℕ) (m : Columns) (ws : List Leaf) → uniform 8 21 k level m ≡ accepted ws → ws ≡ uniformList 8 21 k level
-started-list k level m ws h =
-    let a = accepted-of (outOfRange k) 17 0 _ ws h in
-    let b = accepted-of (not (equalColumns m)) 11 0 _ ws (a .1) in
-    let c = accepted-of (ltb 21 level) 1 0 _ ws (b .1) in
-    let d = accepted-of (ltb limit (k * 8 ^ level)) 15 0 _ ws (c .1) in
-    sym (room-gives (k * 8 ^ level) (room m) (uniformList 8 21 k level) ws (d .1))
-
-adapted-list : (k : ℕ) (cs : Columns) (ms : List ℕ) (m : Columns) (ws : List Leaf) → adapt 8 21 k cs ms m ≡ accepted ws → ws ≡ adapted 8 (leaves cs) ms
-adapted-list k cs ms m ws h =
-    let a = listed-accepted 8 21 k true (eqb (room cs) (length ms) && equalColumns m) cs _ ws h in
-    let b = scan-accepted (markFault ms) 0 (marks.numbers (length ms)) _ ws (a .1) in
-    let c = scan-accepted (depthFault 21 (cs .levels) ms) 0 (marks.numbers (length ms)) _ ws (b .1) in
-    let d = accepted-of (ltb limit (length (adapted 8 (leaves cs) ms))) 15 0 _ ws (c .1) in
-    sym (room-gives (length (adapted 8 (leaves cs) ms)) (room m) (adapted 8 (leaves cs) ms) ws (d .1))
-
 -- ---- the calls
 module _ (k : ℕ) (due : Outcome (List Leaf)) (vs : List Leaf) (is-list : (ws : List Leaf) → due ≡ accepted ws → ValidList 8 21 k (columnsOf ws))
     (which : (ws : List Leaf) → due ≡ accepted ws → ws ≡ vs) where
@@ -103,8 +81,8 @@ module _ (k : ℕ) (due : Outcome (List Leaf)) (vs : List Leaf) (is-list : (ws :
 pub in-memory : InMemory
 in-memory =
     record {
-      started = λ k level N r m m′. given k (uniform 8 21 k level m) (uniformList 8 21 k level) (uniform-listed 8 21 (omega arith) k level m) (started-list k level m) N r m m′;
-      adapted = λ k N r cs ms m m′. given k (adapt 8 21 k cs ms m) (adapted 8 (leaves cs) ms) (adapt-listed 8 21 (omega arith) k cs ms m) (adapted-list k cs ms m) N r m m′;
+      started = λ k level N r m m′. given k (uniform 8 21 k level m) (uniformList 8 21 k level) (uniform-listed 8 21 (omega arith) k level m) (λ ws is. accepts .uniform k level m ws .0 is .result) N r m m′;
+      adapted = λ k N r cs ms m m′. given k (adapt 8 21 k cs ms m) (adapted 8 (leaves cs) ms) (adapt-listed 8 21 (omega arith) k cs ms m) (λ ws is. accepts .adapt k cs ms m ws .0 is .result) N r m m′;
       shared = λ k p r cs ws m m′ f e.
           let a = gave passOf (λ (boundaries : List ℕ). tt) written (shares 8 21 k p cs ws m) r m m′ tt f e in
           front-boundaries k p cs ws m m′ (a .0) (a .1 .0) (a .1 .1 .1);
@@ -144,10 +122,10 @@ pub in-memory-over-c : ListsOverC → InMemoryOverC
 in-memory-over-c calls =
     record {
       started = λ k level r m m′.
-          given-over-c k (uniform 8 21 k level m) (uniformList 8 21 k level) (uniform-listed 8 21 (omega arith) k level m) (started-list k level m) r m m′
+          given-over-c k (uniform 8 21 k level m) (uniformList 8 21 k level) (uniform-listed 8 21 (omega arith) k level m) (λ ws is. accepts .uniform k level m ws .0 is .result) r m m′
           (calls .uniform k level m);
       adapted = λ k r cs ms m m′.
-          given-over-c k (adapt 8 21 k cs ms m) (adapted 8 (leaves cs) ms) (adapt-listed 8 21 (omega arith) k cs ms m) (adapted-list k cs ms m) r m m′
+          given-over-c k (adapt 8 21 k cs ms m) (adapted 8 (leaves cs) ms) (adapt-listed 8 21 (omega arith) k cs ms m) (λ ws is. accepts .adapt k cs ms m ws .0 is .result) r m m′
           (calls .adapt k cs ms m);
       shared = λ k p r cs ws m m′ f zero.
           let a = returned words (λ o. passResult (mapped (λ (boundaries : List ℕ). tt) o)) written (shares 8 21 k p cs ws m) r m m′ (calls .shares k p cs ws m) f zero in

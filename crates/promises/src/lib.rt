@@ -24,7 +24,8 @@ pub struct AllCounts {
     pub prism: Counts,
 }
 
-// The constants that the code of the three shapes states are those of their definitions.
+// The constants that the code of the three shapes states, which are those of their definitions; that it is these that are answered is read off the lines
+// below.
 pub fn constants() -> AllCounts
     ensures { λ r. ⌜ r ≡ stated ⌝ }
 {
