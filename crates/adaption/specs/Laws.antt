@@ -5,7 +5,8 @@
 --   Refinable vs ms   no leaf of the highest level is marked 1
 --   Marked            the marks of N leaves are m for the k leaves from number i on, and 0 for the others
 --   Step, Steps K s vs ws   an accepted adaption of the list vs: the leaves that it gives; s of them, one after the other, from vs to ws
---   Promised          all of it
+--   Promised          the pass is `OnePass`; a valid list stays valid; marks 0 change nothing; a leaf refined alone and its children merged next
+--                     give the list again
 --   Siblings S vs j   the leaves from number j on, as many as an element has children, are of one root, and their elements are a family: "yes
 --                     exactly when the given elements are all children of one parent, in order"
 --   Relatives S       a leaf's children and its parent are the element's, and leaves are a family here exactly when they are siblings there

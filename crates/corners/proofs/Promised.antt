@@ -16,7 +16,7 @@ use Rattle.corners.specs.declared.Corner.{Corner}
 use Rattle.corners.specs.declared.Root.{Root}
 use Rattle.corners.specs.declared.Point.{Point}
 use Rattle.corners.specs.CornerPoints.{corner, rootWithin, q, coordinate, pointAt, cornerPoint}
-use Rattle.corners.specs.Laws.{Exact, Promised, Small, AsDue, pointed}
+use Rattle.corners.specs.Laws.{Answers, Exact, Promised, Small, AsDue, pointed}
 use Rattle.corners.specs.Inner.{xs, ys, zs, localOf, cornerOf}
 use Rattle.corners.proofs.Offsets.{axis-bound}
 use Rattle.corners.proofs.Roots.{near-xs, near-ys, near-zs}
@@ -74,6 +74,19 @@ module _ (l p i : ℕ) (r : Root) (a : Point) (shallow : l ≤ 21) (below : p < 
         z = sym (exact .only _ (a .z) (bound .in-z) (h .z-is)) k;
       })
 
+answers : (l p i : ℕ) (r : Root) (a : Point) → cornerPoint l p i r ≡ accepted a → Answers l p i r a
+unfolding cornerPoint
+answers l p i r a h =
+    let level = accepted-of (ltb 21 l) 1 0 _ a h in
+    let position = accepted-of (leb (8 ^ l) p) 5 0 _ a (level .1) in
+    let number = accepted-of (leb 6 i) 8 0 _ a (position .1) in
+    let root = accepted-of (not (rootWithin r)) 24 0 _ a (number .1) in
+    let shallow = ltb-false 21 l (level .0) in
+    let inside = leb-false (8 ^ l) p (position .0) in
+    let six = leb-false 6 i (number .0) in
+    let near = not-false (rootWithin r) (root .0) in
+    record { shallow = shallow; inside = inside; numbered = six; near = near; as-due = due l p i r a shallow inside six near h }
+
 -- ---- the root's own corners
 -- where Q is 2^42 times a corner's number in each coordinate, the point is that corner
 there : (r : Root) (X Y Z : ℕ) (v : Corner)
@@ -118,7 +131,7 @@ pub promised : Promised
 promised =
     record {
       accepts = λ l p i r a b c near. point-accepted l p i r a b c near;
-      answered = λ l p i r a shallow below six near. (due l p i r a shallow below six near, only-due l p i r a shallow below six near);
+      answered = λ l p i r a. (answers l p i r a, λ h. only-due l p i r a (h .shallow) (h .inside) (h .numbered) (h .near) (h .as-due));
       exact = exact;
       bounded = record { small = small };
       meaning = record { root's-own = own; shared = shared };

@@ -9,8 +9,9 @@
 --   pointed v        a corner of the root as a point
 --   Meaning          the corners of the root element are the root's own six; two corners with the same local (X, Y, Z) get the
 --                    same point, whatever their levels
---   Promised         all of it; what is accepted: any root with numbers from -512 to 512, "flat or folded"; and an answer is accepted
---                    exactly when it is as due, so it is determined
+--   Answers          the level, position, corner number and root are in range, and the point a is as due
+--   Promised         all of it; what is accepted: any root with numbers from -512 to 512, "flat or folded"; and the call accepts exactly in
+--                    these ranges, with the point that is due and no other
 --
 -- Assumes nothing.
 use mathlib.Core.Path.{_≡_}
@@ -68,11 +69,18 @@ pub record Meaning : Type 0 where
       → prisms.corner HIGHEST (elementAt prism l p) i ≡ prisms.corner HIGHEST (elementAt prism m s) j
       → cornerPoint l p i r ≡ cornerPoint m s j r
 
+-- a corner that there is, in a root that may be, and the point that is due there
+pub record Answers (l p i : ℕ) (r : Root) (a : Point) : Type 0 where
+  pub shallow : l ≤ HIGHEST
+  pub inside : p < CHILDREN ^ l
+  pub numbered : i < CORNERS
+  pub near : rootWithin r ≡ true
+  pub as-due : AsDue r (prisms.corner HIGHEST (elementAt prism l p) i) a
+
 pub record Promised : Type 0 where
   pub accepts : (l p i : ℕ) (r : Root) → l ≤ HIGHEST → p < CHILDREN ^ l → i < CORNERS → rootWithin r ≡ true
       → cornerPoint l p i r ≡ accepted (pointAt r (prisms.corner HIGHEST (elementAt prism l p) i))
-  pub answered : (l p i : ℕ) (r : Root) (a : Point) → l ≤ HIGHEST → p < CHILDREN ^ l → i < CORNERS → rootWithin r ≡ true
-      → cornerPoint l p i r ≡ accepted a ↔ AsDue r (prisms.corner HIGHEST (elementAt prism l p) i) a
+  pub answered : (l p i : ℕ) (r : Root) (a : Point) → cornerPoint l p i r ≡ accepted a ↔ Answers l p i r a
   pub exact : Exact
   pub bounded : Bounded
   pub meaning : Meaning

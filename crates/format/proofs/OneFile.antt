@@ -1,18 +1,17 @@
 -- A list has one file and a file one list: reading and writing undo each other. Assumes nothing.
-use mathlib.Core.Path.{_≡_, refl, ap, ap₂, _∙_, sym, subst⁻¹}
+use mathlib.Core.Path.{_≡_, ap, ap₂, _∙_, sym, subst⁻¹}
 use mathlib.Core.List.{List}
 use Prim.Native.Nat.{ℕ, _≤_, _<_}
-use Rattle.paper.specs.Outcome.{Outcome, accepted, refused}
+use Rattle.paper.specs.Outcome.{accepted}
 use Rattle.leaves.specs.Leaves.{leaves, spotAt, Valid}
 use Rattle.leaves.proofs.Entries.{one-ending}
 use Rattle.format.specs.File.{runsFile, fileOf}
 use Rattle.numbers.specs.Numbers.{highest}
 use Rattle.format.specs.Reading.{Grid, gridAt}
-use Rattle.numbers.specs.Laws.{Bytes}
 use Rattle.format.specs.Laws.{FileOf, OneFile}
 use Rattle.format.proofs.ReadBack.{read-back}
 use Rattle.format.proofs.Taking.{accepted-same}
-use Rattle.format.proofs.Accepting.{valid-grid, accepted-file}
+use Rattle.format.proofs.Accepting.{accepted-file}
 use Rattle.format.proofs.Standing.{grid-stands}
 use Rattle.format.proofs.AreRuns.{runs-are, runs-only}
 use Rattle.format.proofs.Placed.{grid-placed}
@@ -32,10 +31,7 @@ module _ (n L : ℕ) (positive : 0 < n) (low : L ≤ highest) where
       record {
         runs-are = runs-are;
         runs-only = runs-only;
-        read-back = reads;
-        valid-read = valid-grid n L positive;
-        written-back = accepted-file n L positive;
-        others-refused = λ bs all none. by bs all none (gridAt n L bs) refl;
+        reads = λ bs g all. (accepted-file n L positive bs g all, reads bs g);
         stands = λ bs more number at e long there. grid-stands bs more n L number at long there e;
         placed = λ bs number at e. grid-placed bs n L number at e .0;
         one-list = λ bs g g′ f f′. accepted-same g g′ (sym (reads bs g f) ∙ reads bs g′ f′);
@@ -43,8 +39,3 @@ module _ (n L : ℕ) (positive : 0 < n) (low : L ≤ highest) where
             let roots = one-ending n L (g .roots) (g′ .roots) (spotAt 0 0) (g .leaves) (f .grid .valid) (subst⁻¹ (Valid n L (g′ .roots)) same (f′ .grid .valid)) in
             file-is bs g f ∙ ap₂ fileOf roots same ∙ sym (file-is bs′ g′ f′);
       }
-    where
-      by : (bs : List ℕ) → Bytes bs → ((g : Grid) → FileOf n L bs g → ⊥) → (o : Outcome Grid) → gridAt n L bs ≡ o
-          → (number : ℕ) × ((at : ℕ) × (gridAt n L bs ≡ refused number at))
-      by bs all none (accepted g) e = absurd (none g (accepted-file n L positive bs g all e))
-      by bs all none (refused number at) e = (number, (at, e))

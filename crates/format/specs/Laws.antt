@@ -2,13 +2,14 @@
 --
 --   ValidGrid g   the grid g is valid
 --   FileOf bs g   the bytes bs are a file of the grid g: the tag, K, R, and runs that are those of its leaves
---   OneFile       a list has runs, and no others; a file of a valid list is read as that list; what is read is a valid list, and the bytes
---                 are its file; every other byte string is refused, by a fault that stands whatever bytes follow it, unless it is that bytes
---                 are missing: 19, or 18 with less than four bytes; a fault's place is an offset in the file, or its end; so "A list has one
+--   OneFile       a list has runs, and no others; bytes are read as a grid exactly when they are a file of it, which is valid; every other byte
+--                 string is refused, by a fault that stands whatever bytes follow it, unless it is that bytes are missing: 19, or 18 with
+--                 fewer than four bytes; a fault's place is an offset in the file, or its end; so "A list has one
 --                 file and a file one list", also where K is not given
 --
 -- Assumes nothing.
 use mathlib.Core.Path.{_≡_}
+use mathlib.Core.Logic.{_↔_}
 use mathlib.Core.List.{List, _++_}
 use Prim.Native.Nat.{ℕ, _≤_, _<_}
 use lib.ListN.{length}
@@ -35,11 +36,7 @@ module _ (n L : ℕ) where
   pub record OneFile : Type 0 where
     pub runs-are : (vs : List Leaf) → AreRuns (runsOf vs) vs
     pub runs-only : (rs : List Run) (vs : List Leaf) → AreRuns rs vs → rs ≡ runsOf vs
-    pub read-back : (bs : List ℕ) (g : Grid) → FileOf bs g → gridAt n L bs ≡ accepted g
-    pub valid-read : (bs : List ℕ) (g : Grid) → gridAt n L bs ≡ accepted g → ValidGrid g
-    pub written-back : (bs : List ℕ) (g : Grid) → Bytes bs → gridAt n L bs ≡ accepted g → FileOf bs g
-    pub others-refused : (bs : List ℕ) → Bytes bs → ((g : Grid) → FileOf bs g → ⊥)
-        → (number : ℕ) × ((at : ℕ) × (gridAt n L bs ≡ refused number at))
+    pub reads : (bs : List ℕ) (g : Grid) → Bytes bs → gridAt n L bs ≡ accepted g ↔ FileOf bs g
     pub stands : (bs more : List ℕ) (number at : ℕ) → gridAt n L bs ≡ refused number at → (number ≡ 18 → 4 ≤ length bs) → (number ≡ 19 → ⊥)
         → gridAt n L (bs ++ more) ≡ refused number at
     pub placed : (bs : List ℕ) (number at : ℕ) → gridAt n L bs ≡ refused number at → at ≤ length bs

@@ -36,17 +36,17 @@ module _ (n L : ℕ) (positive : 0 < n) (low : L ≤ highest) (bs : List ℕ) (m
       let found = then-accepted (gridAt n L bs) laid g (equal .1) in
       let x = found .0 in
       let fits = accepted-of (ltb (room m) (length (x .leaves))) 14 (length (x .leaves)) (accepted x) g (found .1 .1) .0 in
-      let file = one-file n L positive low .written-back bs x all (found .1 .0) in (
+      let file = one-file n L positive low .reads bs x all .0 (found .1 .0) in (
         not-false (equalColumns m) (equal .0),
         subst (λ (y : Grid). FileOf n L bs y × (length (y .leaves) ≤ room m)) (room-gives (length (x .leaves)) (room m) x g (found .1 .1))
             (file, ltb-false (room m) (length (x .leaves)) fits),
       )
 
-  complete : Readable → read n L bs m ≡ accepted g
-  complete (equal, (file, enough)) =
+  complete : Bytes bs → Readable → read n L bs m ≡ accepted g
+  complete all (equal, (file, enough)) =
       passed-by (not (equalColumns m)) 11 0 _ (ap not equal)
-      ∙ then-is (gridAt n L bs) laid g (one-file n L positive low .read-back bs g file)
+      ∙ then-is (gridAt n L bs) laid g (one-file n L positive low .reads bs g all .1 file)
       ∙ passed-by (ltb (room m) (length (g .leaves))) 14 (length (g .leaves)) (accepted g) (le-ltb (room m) (length (g .leaves)) enough)
 
   pub read-exactly : Bytes bs → read n L bs m ≡ accepted g ↔ Readable
-  read-exactly all = (sound all, complete)
+  read-exactly all = (sound all, complete all)

@@ -1,7 +1,7 @@
 -- What is promised of the calls of the grid file, as statements. Definitions only.
 --
---   RoundTrip     what was written is read as the list that was given; what was read is written as the bytes given; and a list is written for one
---                 number of roots only, as one file
+--   RoundTrip     what was written is read as the list that was given, and what was read is written as the bytes given, where there is room (else 14);
+--                 and a list is written for one number of roots only, as one file
 --
 -- Not here: what stands in the lent memory afterwards (`promises/specs/InMemory.antt`). Assumes nothing.
 use mathlib.Core.Path.{_≡_}

@@ -8,7 +8,7 @@
 --   OneLeaf           it lies in exactly one leaf of a list
 --   CellsOnce S K vs  each smallest cell of each of the K roots does
 --   Earlier S u v     the leaf u comes before v: by root, and within a root by the order of two elements
---   CellLaws S        all valid lists are so, at the shape's number of children and highest level, and their leaves stand along the curve, each
+--   CellLaws S        in a valid list each smallest cell lies in exactly one leaf, and the leaves stand along the curve, each
 --                     before all later ones; "a leaf of level l holds 8^(21-l)" smallest cells, counted; and an element of the
 --                     leaf's level or below lies in it exactly when its position, divided by how many of its level the leaf holds, is the leaf's
 --

@@ -1,6 +1,6 @@
 -- Document 01, "Elements": the corner points of a prism, and which of them lie in a face. Definitions only.
 --
---   Corner             a point of the ground plan and a height
+--   Corner, lifted z p   a point p of the ground plan and a height z
 --   corners L e        "A prism is a triangle times the line from z to z+h: corners 0 to 2 at z, 3 to 5 at z+h"
 --   corner L e i       corner i of them: the triangle's, by the remainder of 3, at the line's, by the quotient
 --   facePoints L e i   the corner points of face i (the thesis's definition 27): of a side, those of the triangle's face at both

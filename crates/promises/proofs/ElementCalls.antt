@@ -14,7 +14,7 @@ use Rattle.paper.proofs.Tests.{passed-by}
 use Rattle.paper.proofs.Scan.{fault-none}
 use Rattle.tree.specs.Shape.{Shape}
 use Rattle.tree.specs.Laws.{Sound}
-use Rattle.tree.proofs.Call.{checked-sound}
+use Rattle.tree.proofs.Call.{checked-sound, descendant-refused-1}
 use Rattle.tree.proofs.Accepting.{sound-each}
 use Rattle.tree.specs.Words
 use Rattle.tree.specs.Calls as calls
@@ -108,6 +108,8 @@ module _ {E : Type 0} (S : Shape E) (across : Either S) where
             back e _ sound (when (eqb (Words.position S e + 1) (S .children ^ S .level e)) 9 at0 (λ another. fine (Words.successor S e)));
         first = descendant-back (Words.first S);
         last = descendant-back (Words.last S);
+        first-too-deep = λ e l sound deep. descendant-refused-1 S e sound (Words.first S) l deep;
+        last-too-deep = λ e l sound deep. descendant-refused-1 S e sound (Words.last S) l deep;
         neighbour = λ e i sound. back e _ sound (when (leb (S .faces) i) 8 at0 (λ few. across-so S across e i at1));
         family = λ equal es sound.
             when (not equal) 11 at0 (λ long.

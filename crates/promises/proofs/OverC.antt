@@ -17,7 +17,7 @@ use Rattle.format.specs.Reading.{Grid}
 use Rattle.reader.specs.Calls.{sizeOf}
 use Rattle.results.specs.Results.{lineResult, triangleResult, prismResult, numberResult, truthResult, compareResult, passResult, gridResult, pointResult}
 use Rattle.results.specs.Laws.{Kind, lines, triangles, prisms, numbers, comparisons, words, grids, points}
-use Rattle.results.proofs.Laws.{Result, number-result, truth-result, compare-result, pass-result, grid-result, point-result, line-result, triangle-result, prism-result, shown-result}
+use Rattle.results.proofs.Laws.{Result, number-result, truth-result, compare-result, pass-result, grid-result, point-result, line-result, triangle-result, prism-result, shown-result, shown}
 use Rattle.promises.specs.OverC.{ElementsOverC, ListsOverC, OverC}
 use Rattle.promises.proofs.Flat.{said, flat, returns}
 use Rattle.promises.proofs.ElementCalls.{Rows}
@@ -70,5 +70,6 @@ over-c =
       on-lists = lists-over-c;
       on-points = λ l p i r. returns points pointResult point-result refl (points-so l p i r);
       on-orders = λ input m. flat numbers _ count-result written refl (orders-so input m);
+      shown = shown;
       low = record { of-lists = omega arith; of-files = omega arith; of-orders = omega arith };
     }

@@ -15,7 +15,9 @@
 --   OnLists                the calls on lists and files
 --   OnParts                functions that only this house calls: order of `tree`, check of `marks`, number_at of `numbers`, head_at and sound of
 --                          `sounding`, lay of `columns`, number of `fields`, print of `text`. The last is no call of the paper: it writes what
---                          has room, and answers how many bytes there are. Their words stand in `Inner.antt` of their crates
+--                          has room, and answers how many bytes there are. Their words: `tree/specs/Words.antt`, `marks/specs/Marks.antt`,
+--                          `numbers/specs/Numbers.antt`, `sounding/specs/Answers.antt`, `columns/specs/Laying.antt`, and `Inner.antt` of
+--                          `fields` and `text`
 --   OfCalls                demand 1
 --
 -- Assumes nothing.

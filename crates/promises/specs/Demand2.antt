@@ -5,20 +5,23 @@
 --   Figure        the corner points of a shape's elements: by number, as the paper lists them, those of a face by number, all faces, and which number
 --                 a face has for the neighbour
 --                 (lineFigure, triangleFigure, prismFigure: of the three)
---   HandedBack    "no call refuses it by 1 to 4": what a call can refuse a sound element by
+--   HandedBack    what a call can refuse a sound element by: none of the checks on an element
 --   Elements      what is promised of one shape, with its index and its corner points
 --   OfElements    of the elements of all three shapes
---   OfLists       of leaf lists and their calls: when each call accepts, and with what (`Accepts.antt`); each smallest cell lies in one leaf, and the
+--   OfLists       of leaf lists and their calls: when each call accepts, and with what (`Accepts.antt`); each smallest cell lies in exactly one leaf, and the
 --                 leaves stand along the curve; a leaf's relatives are the prism's; adaption is the paper's one pass, boundaries are the paper's
 --   OfFiles       of grid files: "a list has one file and a file one list", and writing and reading undo each other
 --   Demand2       all of it, with corner points (the exact value and no other, the bound, the root's own corners, one point for one local corner)
---                 and orders (the first 71 bytes decide, its shares are the list's own, its numbers read back, its output has room)
+--                 and orders (when one is accepted, the first 71 bytes decide, its fields are repeated, its shares are the list's own, its
+--                 numbers read back, its output has room)
 --
 -- Assumes nothing.
 use mathlib.Core.Bool.{Bool}
+use mathlib.Core.Path.{_≡_}
 use mathlib.Core.List.{List, [], _∷_, List·Memᴰ}
-use Prim.Native.Nat.{ℕ, _≤_}
+use Prim.Native.Nat.{ℕ, _≤_, _<_}
 use lib.ListN.{length}
+use Rattle.paper.specs.Outcome.{refused}
 use Rattle.tree.specs.Anchors.{HIGHEST}
 use Rattle.tree.specs.Shape.{Shape}
 use Rattle.tree.specs.Calls as calls
@@ -61,7 +64,7 @@ pub record Figure (E P : Type 0) : Type 0 where
   pub faces : E → List (List P)
   pub across : ℕ → ℕ
 
--- a sound element handed in is refused by none of 1 to 4; 1 is then the level that was asked for
+-- a sound element handed in is refused by none of 1 to 4; a level asked for above the highest is 1
 pub record HandedBack {E : Type 0} (S : Shape E) : Type 0 where
   pub position : (e : E) → Sound S e → Refuses [] 0 (calls.position S e)
   pub parent : (e : E) → Sound S e → Refuses (6 ∷ []) 0 (calls.parent S e)
@@ -69,6 +72,8 @@ pub record HandedBack {E : Type 0} (S : Shape E) : Type 0 where
   pub successor : (e : E) → Sound S e → Refuses (9 ∷ []) 0 (calls.successor S e)
   pub first : (e : E) (l : ℕ) → Sound S e → l ≤ S .highest → Refuses (6 ∷ []) 0 (calls.first S e l)
   pub last : (e : E) (l : ℕ) → Sound S e → l ≤ S .highest → Refuses (6 ∷ []) 0 (calls.last S e l)
+  pub first-too-deep : (e : E) (l : ℕ) → Sound S e → S .highest < l → calls.first S e l ≡ refused 1 0
+  pub last-too-deep : (e : E) (l : ℕ) → Sound S e → S .highest < l → calls.last S e l ≡ refused 1 0
   pub neighbour : (e : E) (i : ℕ) → Sound S e → Refuses (8 ∷ 10 ∷ []) 0 (calls.neighbour S e i)
   pub family : (equal : Bool) (es : List E) → ((e : E) → List·Memᴰ e es → Sound S e) → Refuses (11 ∷ []) 0 (calls.family S equal es)
   pub order : (e f : E) → Sound S e → Sound S f → Refuses [] 0 (calls.order S e f)

@@ -1,7 +1,7 @@
 -- Demand 3 in memory: what an accepted call leaves in the first entries of the columns, or the first bytes, that it was lent. Definitions only.
 --
 --   InMemory        of each call that writes: which list, file or boundaries stand there; and a list that stands there is valid, so that every list
---                   call takes it (`Accepts` in demand 2), and boundaries are those of a division as demand 3 has it
+--                   call accepts it where its other arguments are right (`Accepts.antt`), and boundaries are those of a division as demand 3 has it
 --   InMemoryOverC   the same of each function over C that writes, where its word is 0
 --
 -- Not here: the bytes that an order prints (`Answered`, `OrderResult`). Assumes nothing.

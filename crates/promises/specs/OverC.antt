@@ -7,9 +7,9 @@
 --   ElementsOverC S k f fs   the functions on the elements of a shape, whose element results are f, of kind k; fs are the numbers of the checks on an
 --                     element
 --   ListsOverC        the functions on lists and files
---   Low               the places of all of these are below 2^56, and can be read back; of a family's, an index, this is so where the columns have
---                     fewer entries, and no memory holds more
---   OverC             all of it
+--   Low               the largest places of the list, file and order calls are below 2^56, so that `Word` reads them back; those of points and
+--                     elements are 0 or 1, but a family's, which is at most the number of elements
+--   OverC             all of it, and what the result of an accepted outcome holds (`Shown` of `results/specs/Laws.antt`)
 --
 -- What a caller in C must hold to, since C can't: docs/PROMISES.md, "What is assumed".
 -- Assumes nothing.
@@ -37,7 +37,7 @@ use Rattle.corners.specs.CornerPoints.{cornerPoint}
 use Rattle.text.specs.Text.{longestOutput}
 use Rattle.orders.specs.Calls.{answer}
 use Rattle.results.specs.Results.{lineResult, triangleResult, prismResult, numberResult, truthResult, compareResult, passResult, pointResult}
-use Rattle.results.specs.Laws.{Kind, lines, triangles, prisms, numbers, comparisons, points, grids, words, Word}
+use Rattle.results.specs.Laws.{Kind, lines, triangles, prisms, numbers, comparisons, points, grids, words, Word, Shown}
 use Rattle.interface.specs.Calls.{UniformResult, AdaptResult, SharesResult, WriteResult, ReadResult, OrderResult}
 use Rattle.tree.specs.Calls as calls
 use Rattle.promises.specs.Demand1.{filed}
@@ -91,4 +91,5 @@ pub record OverC : Type 0 where
   pub on-lists : ListsOverC
   pub on-points : (l p i : ℕ) (r : Root) → Returns points (1 ∷ 5 ∷ 8 ∷ 24 ∷ []) 0 pointResult (cornerPoint l p i r)
   pub on-orders : (input m : List ℕ) → Flat numbers (14 ∷ []) longestOutput (answer input (length m)) m (λ r m′. OrderResult r input m m′)
+  pub shown : Shown
   pub low : Low

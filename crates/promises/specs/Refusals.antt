@@ -1,4 +1,4 @@
--- Document 01, "Refusal numbers": which of its numbers a call can refuse with, and at which places. Definitions only.
+-- Document 01, "Refusal numbers": by which of its numbers alone a call refuses, and up to which place. Definitions only.
 --
 --   Refuses ns most o   where the outcome o is a refusal, its number is one of ns and its place at most `most`
 --

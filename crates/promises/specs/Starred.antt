@@ -1,7 +1,7 @@
 -- Document 01, "Marked examples": the starred cases as one table, line by line. H = 1,048,576, G = 524,288; prisms as (x, y, z, type).
 -- Definitions only; `proofs/Starred.antt` proves AllHold starred.
 --
---   call gives answer   a case: what a call's definition gives, and what the paper says it is
+--   Case, call gives answer   a case: what a call's definition gives, and what the paper says it is
 --   starred             the table
 --   AllHold             every case of a table holds
 --

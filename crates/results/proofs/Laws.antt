@@ -9,7 +9,7 @@ use lib.ListN.{length}
 use Rattle.paper.specs.Outcome.{Outcome, accepted, refused, mapped, Order, less, same, greater}
 use Rattle.paper.proofs.Scan.{never}
 use Rattle.results.specs.Results.{word, lineResult, triangleResult, prismResult, numberResult, truthResult, compareResult, passResult, gridResult, pointResult}
-use Rattle.results.specs.Laws.{Kind, lines, triangles, prisms, numbers, comparisons, points, grids, words, Word}
+use Rattle.results.specs.Laws.{Kind, lines, triangles, prisms, numbers, comparisons, points, grids, words, Word, Shown}
 
 -- f gives the results of a kind: the word is that of the outcome, and on a refusal every other field is 0
 pub record Result {A R : Type 0} (kind : Kind R) (result : Outcome A → R) : Type 0 where
@@ -105,3 +105,21 @@ mapped-word g (refused number place) = refl
 
 pub shown-result : {A B R : Type 0} (kind : Kind R) (result : Outcome B → R) (g : A → B) → Result kind result → Result kind (λ (o : Outcome A). result (mapped g o))
 shown-result kind result g is = record { worded = λ o. is .worded (mapped g o) ∙ mapped-word g o; blanked = is .blanked }
+
+-- ---- what an accepted outcome's result holds
+pub shown : Shown
+unfolding lineResult triangleResult prismResult numberResult truthResult compareResult pointResult gridResult
+shown =
+    record {
+      line = λ e. refl;
+      triangle = λ e. refl;
+      prism = λ e. refl;
+      number = λ n. refl;
+      yes = refl;
+      no = refl;
+      less-is = refl;
+      same-is = refl;
+      greater-is = refl;
+      point = λ a. refl;
+      grid = λ K N. refl;
+    }

@@ -3,7 +3,7 @@
 --   Boundary P ws s j  j is "the largest leaf count j whose first j weights sum to S with P·S <= s·W"
 --   InShare P ws s j   leaf j lies in share s
 --   OneShare P ws j    leaf j lies in exactly one of the P shares
---   Fair               what the boundaries are, and how they divide the leaves: from none to all, each leaf in one share, and
+--   Fair               what the boundaries are, and how they divide the leaves: from none to all, each leaf in exactly one share, and
 --                      |P·weight - W| < P·heaviest, strictly, as two bounds
 --   Weighty ws         no weight is 0
 --   Heaviest ws h      h is the heaviest weight: one leaf has it, and none is heavier

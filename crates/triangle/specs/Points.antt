@@ -1,8 +1,8 @@
 -- Document 01, "Elements": the corner points of a triangle, and which of them lie in a face. Definitions only.
 --
---   Point              x and y
+--   Point, point x y   x and y
 --   corners L e        "With anchor (x, y) a triangle of type 0 has corners (x,y), (x+h,y), (x+h,y+h); type 1 has (x,y), (x,y+h),
---                      (x+h,y+h)"
+--                      (x+h,y+h)"; cornersBy t h x y: by type, side and anchor
 --   corner L e i       corner i of them
 --   facePoints L e i   "Face i of a triangle (0 to 2) is opposite corner i": the two other corners
 --   faces L e          its faces, each opposite a corner
