@@ -69,7 +69,7 @@ in-range fs sound =
 
 -- ---- a form that is accepted
 module _ (s : List ℕ) (f : Form) (is : read s ≡ accepted f) where
-  parts : (scan (fault (fields s)) 1 (rows (λ i. i) 1 7) passed ≡ passed) × (lastly s ≡ accepted f)
+  pub parts : (scan (fault (fields s)) 1 (rows (λ i. i) 1 7) passed ≡ passed) × (lastly s ≡ accepted f)
   parts = scan-accepted (fault (fields s)) 1 (rows (λ i. i) 1 7) (lastly s) f is
 
   pub form-clean : (j : ℕ) → 1 ≤ j → j < 8 → fault (fields s) j ≡ 0

@@ -6,3 +6,4 @@ pub mod Deciding
 pub mod Whole
 pub mod Enough
 pub mod Refusals
+pub mod Accepting

@@ -26,7 +26,7 @@ refused-by-number true v n p e = never v n p (sym e)
 refused-by-number false v n p e = refl
 
 -- neither missing nor no number
-sound-number : (missing right : Bool) (rest : ℕ) → missing ≡ false → right ≡ true → fault-when missing 23 (fault-when (not right) 23 rest) ≡ rest
+pub sound-number : (missing right : Bool) (rest : ℕ) → missing ≡ false → right ≡ true → fault-when missing 23 (fault-when (not right) 23 rest) ≡ rest
 sound-number missing right rest there is = simp (there, is)
 
 module _ {s : List ℕ} {at i K L : ℕ} where
