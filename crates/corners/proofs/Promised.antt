@@ -1,11 +1,13 @@
 -- What is promised of corner points, put together from the laws on the f64, on the bound and on the root's own corners. Assumes nothing.
 use mathlib.Core.Path.{_≡_, refl, sym, ap, _∙_, subst}
-use mathlib.Core.Bool.{Bool, true, false}
+use mathlib.Core.Bool.{Bool, true, false, not}
 use Prim.Native.Nat.{ℕ, zero, suc, _^_, _≤_, _<_}
 use native.Mathlib.Omega.{arith}
-use lib.Dec.{lit<, lit≤}
+use lib.Dec.{lit<, lit≤, ltb, leb}
+use borrow.Author.Tests.{ltb-false, leb-false, not-false}
 use lib.IntN.{ℤ, pos, _*ℤ_}
 use Rattle.paper.specs.Outcome.{Outcome, accepted, refused}
+use Rattle.paper.proofs.Scan.{accepted-of}
 use Rattle.tree.proofs.RoundTrip.{at-sound}
 use Rattle.prism.proofs.Laws.{lawful}
 use Rattle.prism.proofs.Inside.{corner-in-root}
