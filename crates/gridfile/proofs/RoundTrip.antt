@@ -1,15 +1,14 @@
 -- Reading and writing undo each other: a list that is written is read, and the bytes that were read are written. Assumes nothing.
-use mathlib.Core.Path.{_≡_, ap, _∙_, sym, subst⁻¹}
+use mathlib.Core.Path.{_≡_, ap, _∙_, sym}
 use mathlib.Core.Bool.{true, not}
 use mathlib.Core.List.{List}
 use Prim.Native.Nat.{ℕ, _≤_, _<_}
 use native.Mathlib.Omega.{arith}
-use lib.Dec.{ltb}
-use lib.ListN.{length, length-map}
+use lib.ListN.{length}
 use Rattle.paper.specs.Outcome.{Outcome, accepted, passed, and-then}
 use Rattle.paper.specs.Memory.{roomFor}
 use Rattle.paper.proofs.Scan.{accepted-of}
-use Rattle.leaves.specs.Leaves.{Leaf, Columns, leaves, columnsOf, equalColumns, room, spotAt}
+use Rattle.leaves.specs.Leaves.{Columns, leaves, columnsOf, equalColumns, room, spotAt}
 use Rattle.leaves.specs.Calls.{limit, listed}
 use Rattle.leaves.specs.Laws.{ValidList}
 use Rattle.leaves.proofs.Columns.{leaves-length, columns-valid}
@@ -20,7 +19,7 @@ use Rattle.format.specs.File.{fileOf}
 use Rattle.format.specs.Reading.{Grid, gridAt}
 use Rattle.format.specs.Laws.{ValidGrid, FileOf}
 use Rattle.format.proofs.Tests.{passes}
-use Rattle.format.proofs.Taking.{accepted-same, then-accepted}
+use Rattle.format.proofs.Taking.{then-accepted}
 use Rattle.format.proofs.ReadBack.{read-back}
 use Rattle.format.proofs.Accepting.{valid-grid, accepted-file}
 use Rattle.format.proofs.OneFile.{file-is}

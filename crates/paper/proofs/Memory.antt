@@ -48,7 +48,8 @@ shown-accepted shown (accepted a) b h = let same : shown a ≡ b = cc in (a, (re
 shown-accepted shown (refused number place) b h = never b number place h
 
 module _ {R A B M : Type 0} (reading : R → Outcome B) (shown : A → B) (put : A → M → M) (due : Outcome A) (r : R) (m m′ : M) where
-  pub gave : (b : B) → Fulfils reading (mapped shown) put due r m m′ → reading r ≡ accepted b → (a : A) × ((due ≡ accepted a) × ((shown a ≡ b) × (m′ ≡ put a m)))
+  pub gave : (b : B) → Fulfils reading (mapped shown) put due r m m′ → reading r ≡ accepted b
+      → (a : A) × ((due ≡ accepted a) × ((shown a ≡ b) × (m′ ≡ put a m)))
   gave b f e =
       let given = shown-accepted shown due b (sym (f .answer) ∙ e) in
       (given .0, (given .1 .0, (given .1 .1, f .memory ∙ ap (λ (o : Outcome A). left put o m) (given .1 .0))))

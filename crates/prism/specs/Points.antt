@@ -20,7 +20,6 @@ use mathlib.Core.Bool.{cond}
 use mathlib.Core.List.{List, [], _∷_, _++_, map}
 use Prim.Native.Nat.{ℕ, _+_, _-_, _%_, _/_, _^_, _≤_, _<_}
 use lib.Dec.{ltb}
-use lib.ListN.{getD}
 use Rattle.tree.specs.Anchors.{side}
 use Rattle.tree.specs.Laws.{Sound}
 use Rattle.triangle.specs.Points.{Point}

@@ -2,11 +2,9 @@
 use mathlib.Core.Path.{_≡_, refl, _∙_, sym, ap, subst}
 use mathlib.Core.Bool.{not}
 use mathlib.Core.List.{List, [], _∷_}
-use Prim.Native.Nat.{ℕ, _+_, _*_, _^_, _≤_}
-use native.Mathlib.Omega.{arith}
+use Prim.Native.Nat.{ℕ, _+_, _*_, _^_}
 use lib.Dec.{leb, ltb}
 use lib.ListN.{length}
-use Rattle.paper.specs.Outcome.{Outcome}
 use Rattle.paper.specs.Memory.{written}
 use Rattle.paper.specs.Readings.{valueOf, truthOf, comparisonOf, passOf}
 use Rattle.paper.proofs.Faults.{finds-one}
@@ -14,7 +12,7 @@ use Rattle.line.specs.Elements.{line, lineOf}
 use Rattle.triangle.specs.Elements.{triangle, triangleOf}
 use Rattle.prism.specs.Elements.{prism, prismOf}
 use Rattle.leaves.specs.Leaves.{Columns, front}
-use Rattle.columns.specs.Laying.{Laid, stretch, stored}
+use Rattle.columns.specs.Laying.{stretch, stored}
 use Rattle.marks.specs.Marks.{checkMarks}
 use Rattle.numbers.specs.Answers.{foundOf}
 use Rattle.format.specs.Reading.{Grid, sound}
@@ -31,7 +29,6 @@ use Rattle.text.specs.Text.{longestOutput}
 use Rattle.orders.specs.Calls.{output}
 use Rattle.orders.specs.Calls as orders
 use Rattle.orders.proofs.Promised.{promised}
-use Rattle.fields.specs.Inner as fields
 use Rattle.forms.specs.Forms as forms
 use Rattle.promises.specs.Refusals.{Refuses}
 use Rattle.promises.specs.Demand1.{OnLists, OnParts, OfCalls}
@@ -56,7 +53,8 @@ on-lists =
     }
 
 -- ---- the calls that those are made of
-stretch-one : (root level position : ℕ) (m : Columns) (a b : ℕ) → a ≡ b → (i : ℕ) → stored i (stretch root level position a) m ≡ stored i (stretch root level position b) m
+stretch-one : (root level position : ℕ) (m : Columns) (a b : ℕ) → a ≡ b → (i : ℕ)
+    → stored i (stretch root level position a) m ≡ stored i (stretch root level position b) m
 stretch-one root level position m a b same i = ap (λ (k : ℕ). stored i (stretch root level position k) m) same
 
 on-parts : OnParts

@@ -1,5 +1,4 @@
 -- Demand 2: each part is a law of its crate, at the three shapes. Assumes nothing.
-use mathlib.Core.List.{List}
 use Prim.Native.Nat.{ℕ}
 use native.Mathlib.Omega.{arith}
 use Rattle.tree.specs.Shape.{Shape}

@@ -48,7 +48,8 @@ of-accepted K P cs ws column bs h =
     let d = accepts .shares K P cs ws column bs .0 h in
     let list = d .list in (
       d .result,
-      of-list K P (leaves cs) ws (list .valid) (omega (arith, list .some, leaves-length cs)) (omega (arith, d .weighed, leaves-length cs)) (d .weighty) (d .some-share),
+      of-list K P (leaves cs) ws (list .valid) (omega (arith, list .some, leaves-length cs))
+          (omega (arith, d .weighed, leaves-length cs)) (d .weighty) (d .some-share),
     )
 
 -- ---- a grid that is reached

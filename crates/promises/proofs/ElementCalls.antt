@@ -1,5 +1,5 @@
 -- The refusals of the element calls, over any shape: the checks on an element have their numbers, and across a face it is 10. Assumes nothing.
-use mathlib.Core.Path.{_≡_, refl, sym, subst}
+use mathlib.Core.Path.{_≡_, sym, subst}
 use mathlib.Core.Logic.{_⊎_, inl, inr}
 use mathlib.Core.Bool.{Bool, not}
 use mathlib.Core.List.{List, [], _∷_, List·Memᴰ}
@@ -70,7 +70,8 @@ rows S faults known deep across =
       order = λ e f. in-turn (S .fault) 0 (e ∷ f ∷ []) (λ g inside. known g) (omega arith) (fine (Words.order S e f));
     }
 
-pub on-elements : {E R : Type 0} (S : Shape E) (elementOf : R → Outcome E) (faults : List ℕ) → Determined elementOf → Rows S faults → OnElements S elementOf faults
+pub on-elements : {E R : Type 0} (S : Shape E) (elementOf : R → Outcome E) (faults : List ℕ) → Determined elementOf → Rows S faults
+    → OnElements S elementOf faults
 on-elements S elementOf faults determined refuses =
     record {
       at = λ l p. answer elementOf determined (refuses .at l p);

@@ -6,13 +6,13 @@ use Prim.Native.Nat.{ℕ, zero, suc, _+_, _*_, _≤_}
 use native.Mathlib.Omega.{arith}
 use lib.Dec.{leb, ltb, eqb}
 use lib.ListN.{length}
-use Rattle.paper.specs.Outcome.{Outcome, accepted, refused}
-use Rattle.leaves.specs.Leaves.{Leaf, Columns, leaves, room, equalColumns}
+use Rattle.paper.specs.Outcome.{Outcome, refused}
+use Rattle.leaves.specs.Leaves.{Columns, leaves, room, equalColumns}
 use Rattle.leaves.specs.Calls.{limit, outOfRange}
 use Rattle.leaves.proofs.Columns.{leaves-length}
 use Rattle.numbers.specs.Numbers.{byteAt, numberAt}
 use Rattle.format.specs.File.{fileOf}
-use Rattle.format.specs.Reading.{Grid, opens, Head, afterRuns, afterRoots, headAt, Walk, start, keep, fits, FoundRun, afterCount, afterLevel, runAt, Sounded, go-on, soundFrom, sound, headed, gridAt}
+use Rattle.format.specs.Reading.{opens, Head, afterRuns, afterRoots, headAt, Walk, start, keep, fits, FoundRun, afterCount, afterLevel, runAt, Sounded, go-on, soundFrom, sound, headed, gridAt}
 use Rattle.format.proofs.Cases.{Either, value, fault, choose, next, under, of-fault}
 use Rattle.format.proofs.Faults.{Within, number-placed}
 use Rattle.format.proofs.Placed.{grid-placed, head-placed, runs-placed, file-small}
@@ -22,7 +22,7 @@ use Rattle.reader.specs.Calls.{read}
 use Rattle.format.proofs.Cases as cases
 use Rattle.promises.specs.Refusals.{Refuses}
 use Rattle.promises.specs.Demand1.{filed}
-use Rattle.promises.proofs.Refusals.{when, when-at, then-so, room-so, fine, at0, at1, at2, at3, at4, after}
+use Rattle.promises.proofs.Refusals.{when, then-so, room-so, at0, at1, at2, at3, at4, after}
 use Rattle.promises.proofs.ListCalls.{Listed, listed-so}
 
 abbrev Any : {A : Type 0} → A → Type 0
@@ -82,7 +82,8 @@ module _ (n L : ℕ) (bs : List ℕ) (K : ℕ) {ns : List ℕ} (in-list : RunNum
       cases.when (not (fits n L K (w .come) (l .value) (k .value))) 12 (w .next) _ (in-list .gap) (λ fit. value tt)))))))
 
   -- the fault is the run's, or that of the runs after it
-  onward : (w : Walk) (o : Outcome FoundRun) (f : FoundRun → Sounded) → Numbered ns o → ((r : FoundRun) → Numbered ns (f r .fault)) → Numbered ns (go-on w o f .fault)
+  onward : (w : Walk) (o : Outcome FoundRun) (f : FoundRun → Sounded) → Numbered ns o → ((r : FoundRun) → Numbered ns (f r .fault))
+      → Numbered ns (go-on w o f .fault)
   onward w _ f (value any) later = later _
   onward w _ f (fault known) later = fault known
 

@@ -1,5 +1,5 @@
 -- What an accepted call leaves in the lent memory: the first entries are its list, or its boundaries. Assumes nothing.
-use mathlib.Core.Path.{_≡_, refl, ap, ap₂, _∙_, sym, subst}
+use mathlib.Core.Path.{_≡_, ap, ap₂, _∙_, sym, subst}
 use mathlib.Core.List.{List}
 use Prim.Native.Nat.{ℕ, _+_}
 use native.Mathlib.Omega.{arith}
@@ -22,7 +22,6 @@ use Rattle.adaption.proofs.Promised.{adapt-listed}
 use Rattle.shares.specs.Shares.{boundaries}
 use Rattle.shares.specs.Calls.{shares}
 use Rattle.shares.proofs.Promised.{promised}
-use Rattle.format.specs.File.{fileOf}
 use Rattle.format.specs.Reading.{Grid, gridAt}
 use Rattle.writer.specs.Calls.{write}
 use Rattle.reader.specs.Answers.{Size, size, gridOf}
@@ -57,7 +56,8 @@ front-boundaries k p cs ws m m′ bs is kept =
     let both = of-accepted k p cs ws m bs is in
     (front-bytes bs m m′ (p + 1) kept (ap length (both .0) ∙ promised .many p ws) ∙ both .0, both .1)
 
-front-grid : (bytes : List ℕ) (m m′ : Columns) (g : Grid) (K N : ℕ) → read 8 21 bytes m ≡ accepted g → m′ ≡ front (g .leaves) m → g .roots ≡ K → length (g .leaves) ≡ N
+front-grid : (bytes : List ℕ) (m m′ : Columns) (g : Grid) (K N : ℕ) → read 8 21 bytes m ≡ accepted g → m′ ≡ front (g .leaves) m → g .roots ≡ K
+    → length (g .leaves) ≡ N
     → (gridAt 8 21 bytes ≡ accepted (record { roots = K; leaves = leaves (firstEntries N m′) })) × ValidList 8 21 K (firstEntries N m′)
 front-grid bytes m m′ g K N is kept roots long =
     let valid = subst (λ (k : ℕ). ValidList 8 21 k (columnsOf (g .leaves))) roots (loads-list 8 21 (omega arith) (omega arith) bytes m g is) in
@@ -75,14 +75,19 @@ module _ (k : ℕ) (due : Outcome (List Leaf)) (vs : List Leaf) (is-list : (ws :
   listed-as ws m m′ N is kept long =
       let here = front-list k ws m m′ N (is-list ws is) kept long in (here .0 ∙ ap columnsOf (which ws is), here .1)
 
-  given : (N : ℕ) (r : NumberAnswer) (m m′ : Columns) → Fulfils valueOf (mapped length) front due r m m′ → valueOf r ≡ accepted N → Stored k vs (firstEntries N m′)
+  given : (N : ℕ) (r : NumberAnswer) (m m′ : Columns) → Fulfils valueOf (mapped length) front due r m m′ → valueOf r ≡ accepted N
+      → Stored k vs (firstEntries N m′)
   given N r m m′ f e = let a = gave valueOf length front due r m m′ N f e in listed-as (a .0) m m′ N (a .1 .0) (a .1 .1 .1) (a .1 .1 .0)
 
 pub in-memory : InMemory
 in-memory =
     record {
-      started = λ k level N r m m′. given k (uniform 8 21 k level m) (uniformList 8 21 k level) (uniform-listed 8 21 (omega arith) k level m) (λ ws is. accepts .uniform k level m ws .0 is .result) N r m m′;
-      adapted = λ k N r cs ms m m′. given k (adapt 8 21 k cs ms m) (adapted 8 (leaves cs) ms) (adapt-listed 8 21 (omega arith) k cs ms m) (λ ws is. accepts .adapt k cs ms m ws .0 is .result) N r m m′;
+      started = λ k level N r m m′.
+          given k (uniform 8 21 k level m) (uniformList 8 21 k level) (uniform-listed 8 21 (omega arith) k level m)
+          (λ ws is. accepts .uniform k level m ws .0 is .result) N r m m′;
+      adapted = λ k N r cs ms m m′.
+          given k (adapt 8 21 k cs ms m) (adapted 8 (leaves cs) ms) (adapt-listed 8 21 (omega arith) k cs ms m)
+          (λ ws is. accepts .adapt k cs ms m ws .0 is .result) N r m m′;
       shared = λ k p r cs ws m m′ f e.
           let a = gave passOf (λ (boundaries : List ℕ). tt) written (shares 8 21 k p cs ws m) r m m′ tt f e in
           front-boundaries k p cs ws m m′ (a .0) (a .1 .0) (a .1 .1 .1);
@@ -96,7 +101,8 @@ in-memory =
 
 -- ---- over C: a word of 0 is an accepted outcome
 module _ {A R M : Type 0} (kind : Kind R) (shows : Outcome A → R) (put : A → M → M) (due : Outcome A) (r : R) (m m′ : M) where
-  returned : {ns : List ℕ} {most : ℕ} → Flat kind ns most due m (λ r m′. Fulfils (λ (r : R). r) shows put due r m m′) → Fulfils (λ (r : R). r) shows put due r m m′ → kind .refusal r ≡ 0
+  returned : {ns : List ℕ} {most : ℕ} → Flat kind ns most due m (λ r m′. Fulfils (λ (r : R). r) shows put due r m m′)
+      → Fulfils (λ (r : R). r) shows put due r m m′ → kind .refusal r ≡ 0
       → (a : A) × ((due ≡ accepted a) × ((r ≡ shows (accepted a)) × (m′ ≡ put a m)))
   returned flat f zero =
       let a = flat .word r m′ f .accepts .0 zero in
@@ -112,7 +118,8 @@ grid-value g r is = (sym (ap (λ (r : GridResult). r .roots) is), sym (ap (λ (r
 
 module _ (k : ℕ) (due : Outcome (List Leaf)) (vs : List Leaf) (is-list : (ws : List Leaf) → due ≡ accepted ws → ValidList 8 21 k (columnsOf ws))
     (which : (ws : List Leaf) → due ≡ accepted ws → ws ≡ vs) where
-  given-over-c : {ns : List ℕ} {most : ℕ} (r : NumberResult) (m m′ : Columns) → Flat numbers ns most due m (λ r m′. Fulfils (λ (r : NumberResult). r) countOf front due r m m′)
+  given-over-c : {ns : List ℕ} {most : ℕ} (r : NumberResult) (m m′ : Columns)
+      → Flat numbers ns most due m (λ r m′. Fulfils (λ (r : NumberResult). r) countOf front due r m m′)
       → Fulfils (λ (r : NumberResult). r) countOf front due r m m′ → r .refusal ≡ 0 → Stored k vs (firstEntries (r .value) m′)
   given-over-c r m m′ flat f zero =
       let a = returned numbers countOf front due r m m′ flat f zero in
@@ -122,10 +129,12 @@ pub in-memory-over-c : ListsOverC → InMemoryOverC
 in-memory-over-c calls =
     record {
       started = λ k level r m m′.
-          given-over-c k (uniform 8 21 k level m) (uniformList 8 21 k level) (uniform-listed 8 21 (omega arith) k level m) (λ ws is. accepts .uniform k level m ws .0 is .result) r m m′
+          given-over-c k (uniform 8 21 k level m) (uniformList 8 21 k level) (uniform-listed 8 21 (omega arith) k level m)
+          (λ ws is. accepts .uniform k level m ws .0 is .result) r m m′
           (calls .uniform k level m);
       adapted = λ k r cs ms m m′.
-          given-over-c k (adapt 8 21 k cs ms m) (adapted 8 (leaves cs) ms) (adapt-listed 8 21 (omega arith) k cs ms m) (λ ws is. accepts .adapt k cs ms m ws .0 is .result) r m m′
+          given-over-c k (adapt 8 21 k cs ms m) (adapted 8 (leaves cs) ms) (adapt-listed 8 21 (omega arith) k cs ms m)
+          (λ ws is. accepts .adapt k cs ms m ws .0 is .result) r m m′
           (calls .adapt k cs ms m);
       shared = λ k p r cs ws m m′ f zero.
           let a = returned words (λ o. passResult (mapped (λ (boundaries : List ℕ). tt) o)) written (shares 8 21 k p cs ws m) r m m′ (calls .shares k p cs ws m) f zero in

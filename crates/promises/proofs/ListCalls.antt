@@ -7,7 +7,7 @@ use native.Mathlib.Omega.{arith}
 use lib.Dec.{leb, ltb, eqb}
 use lib.ListN.{length, getD}
 use borrow.Author.Tests.{ltb-false, not-true, not-false, eqb-true}
-use Rattle.paper.specs.Outcome.{Outcome, passed, refuse-when-at, scan}
+use Rattle.paper.specs.Outcome.{Outcome}
 use Rattle.paper.proofs.Tests.{or-none}
 use Rattle.leaves.specs.Leaves.{Leaf, Columns, leaves, room, equalColumns, uniformList, Spot, spotAt, endOf}
 use Rattle.leaves.specs.Calls.{limit, most, outOfRange, starts, leafFault, walked, listed, checkList, uniform}
@@ -32,7 +32,8 @@ leaf-known n L K c v =
     (fault-so (leb (n ^ v .level) (v .position)) 5 _ at3 (fault-so (not (starts n L K c v)) 12 0 at4 (no-fault _)))
 
 module _ (n L : ℕ) {A : Type 0} {ns : List ℕ} {top : ℕ} where
-  walked-so : (K i : ℕ) (c : Spot) (vs : List Leaf) {o : Outcome A} → i + length vs ≤ top → Refuses (Listed ns) top o → Refuses (Listed ns) top (walked n L K i c vs o)
+  walked-so : (K i : ℕ) (c : Spot) (vs : List Leaf) {o : Outcome A} → i + length vs ≤ top → Refuses (Listed ns) top o
+      → Refuses (Listed ns) top (walked n L K i c vs o)
   unfolding walked
   walked-so K i c [] low rest = when-at (not (eqb (c .root) K && eqb (c .cell) 0)) 12 i at4 (λ e. omega arith) (λ e. rest)
   walked-so K i c (v ∷ vs) low rest =
@@ -67,7 +68,8 @@ uniform-so K l m =
 
 module _ {A : Type 0} {ns : List ℕ} {top : ℕ} where
   -- the marks: 13, then 7, at a leaf
-  marks-so : (L : ℕ) (ls ms : List ℕ) {o : Outcome A} → List·Memᴰ 13 ns → List·Memᴰ 7 ns → length ms ≤ suc top → Refuses ns top o → Refuses ns top (marked L ls ms o)
+  marks-so : (L : ℕ) (ls ms : List ℕ) {o : Outcome A} → List·Memᴰ 13 ns → List·Memᴰ 7 ns → length ms ≤ suc top → Refuses ns top o
+      → Refuses ns top (marked L ls ms o)
   marks-so L ls ms thirteen seven low rest =
       in-turn (markFault ms) 0 (numbers (length ms)) (λ i inside. fault-so (ltb 2 (mark ms i)) 13 0 thirteen (no-fault _)) (omega (arith, rows-length (λ i. i) 0 (length ms)))
       (in-turn (depthFault L ls ms) 0 (numbers (length ms)) (λ i inside. fault-so (eqb (mark ms i) 1 && leb L (getD ls i 0)) 7 0 seven (no-fault _))

@@ -1,5 +1,5 @@
 -- The refusals of an outcome, from those of its tests: each has its number and its place. Assumes nothing.
-use mathlib.Core.Path.{_≡_, refl, ap, _∙_, sym, subst}
+use mathlib.Core.Path.{_≡_, refl, ap, sym, subst}
 use mathlib.Core.Logic.{_⊎_, inl, inr}
 use mathlib.Core.Bool.{Bool, true, false, not, cond}
 use mathlib.Core.List.{List, [], _∷_, List·Memᴰ, List·Memᴰ·head, List·Memᴰ·tail, Memᴰ·cast}
@@ -77,7 +77,8 @@ module _ {A : Type 0} {ns : List ℕ} {most : ℕ} where
   either false o p first second = second
 
   -- elements in turn, with the numbers of their faults
-  pub in-turn : {E : Type 0} (fault : E → ℕ) (i : ℕ) (es : List E) → ((e : E) → List·Memᴰ e es → Known ns (fault e)) → {o : Outcome A} → i + length es ≤ suc most
+  pub in-turn : {E : Type 0} (fault : E → ℕ) (i : ℕ) (es : List E) → ((e : E) → List·Memᴰ e es → Known ns (fault e)) → {o : Outcome A}
+      → i + length es ≤ suc most
       → Refuses ns most o → Refuses ns most (scan fault i es o)
   in-turn fault i [] known low rest = rest
   in-turn fault i (e ∷ es) known low rest =

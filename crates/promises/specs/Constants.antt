@@ -1,5 +1,6 @@
 -- Document 01, "What is built": "Each shape states its own constants: children 2, 4, 8; faces 2, 3, 5; corners 2, 3, 6". That the code states those of
--- the definitions, which demand 2 ties to the children, the faces and the corners themselves (`many` in `Descendants`, `Constants` in `tree/specs/Laws.antt`). Definitions only.
+-- the definitions, which demand 2 ties to the children, the faces and the corners themselves (`many` in `Descendants`, `Constants` in
+-- `tree/specs/Laws.antt`). Definitions only.
 --
 --   countsOf S     the constants of a shape
 --   stated         those of all three

@@ -36,26 +36,26 @@ use Rattle.line.specs.Elements.{line, lineOf}
 use Rattle.triangle.specs.Elements.{triangle, triangleOf}
 use Rattle.prism.specs.Elements.{prism, prismOf}
 use Rattle.leaves.specs.Leaves.{CHILDREN, Columns}
-use Rattle.leaves.specs.Calls.{limit, checkList, uniform, Started}
+use Rattle.leaves.specs.Calls.{limit, checkList, Started}
 use Rattle.columns.specs.Laying.{Laid}
 use Rattle.marks.specs.Marks.{checkMarks}
-use Rattle.adaption.specs.Calls.{adapt, Adapted}
-use Rattle.shares.specs.Calls.{shares, Shared}
+use Rattle.adaption.specs.Calls.{Adapted}
+use Rattle.shares.specs.Calls.{Shared}
 use Rattle.balance.specs.Balance.{balanced}
 use Rattle.numbers.specs.Numbers.{numberAt}
 use Rattle.numbers.specs.Answers.{foundOf}
 use Rattle.format.specs.Reading.{Head, headAt, sound}
-use Rattle.writer.specs.Calls.{write, FileWritten}
+use Rattle.writer.specs.Calls.{FileWritten}
 use Rattle.sounding.specs.Answers.{headOf, Tells}
 use Rattle.sounding.specs.declared.Sounding.{Sounding}
 use Rattle.reader.specs.Answers.{gridOf}
-use Rattle.reader.specs.Calls.{read, FileRead}
+use Rattle.reader.specs.Calls.{FileRead}
 use Rattle.corners.specs.declared.Root.{Root}
 use Rattle.corners.specs.CornerPoints.{cornerPoint, pointOf}
 use Rattle.forms.specs.Forms.{formOf}
 use Rattle.text.specs.Text.{longestOutput}
 use Rattle.text.specs.Inner.{Put}
-use Rattle.orders.specs.Calls.{answer, Answered}
+use Rattle.orders.specs.Calls.{Answered}
 use Rattle.tree.specs.Calls as calls
 use Rattle.fields.specs.Inner as fields
 use Rattle.forms.specs.Forms as forms

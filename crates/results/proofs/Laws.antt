@@ -1,12 +1,9 @@
 -- A word tells its outcome, and each result is of its kind. Assumes nothing.
 use mathlib.Core.Path.{_≡_, refl, ap, _∙_, sym, subst}
-use mathlib.Core.Bool.{Bool, true, false}
-use mathlib.Core.List.{List}
 use Prim.Native.Nat.{ℕ, _+_, _*_, _/_, _%_, _^_, _≤_, _<_}
 use native.Mathlib.Nat.{mod-le}
 use native.Mathlib.Omega.{arith}
-use lib.ListN.{length}
-use Rattle.paper.specs.Outcome.{Outcome, accepted, refused, mapped, Order, less, same, greater}
+use Rattle.paper.specs.Outcome.{Outcome, accepted, refused, mapped}
 use Rattle.paper.proofs.Scan.{never}
 use Rattle.results.specs.Results.{word, lineResult, triangleResult, prismResult, numberResult, truthResult, compareResult, passResult, gridResult, pointResult}
 use Rattle.results.specs.Laws.{Kind, lines, triangles, prisms, numbers, comparisons, points, grids, words, Word, Shown}
@@ -58,7 +55,8 @@ word-tells {A} (refused k at) fits =
     high-place below = let narrow = held .1 in let low = low-place at below in omega arith
 
 -- a refusal's number is what it was, and its place no larger
-pub word-parts : (A : Type 0) (number place : ℕ) → number < 256 → (word {A = A} (refused number place) % 256 ≡ number) × (word {A = A} (refused number place) / 256 ≤ place)
+pub word-parts : (A : Type 0) (number place : ℕ) → number < 256
+    → (word {A = A} (refused number place) % 256 ≡ number) × (word {A = A} (refused number place) / 256 ≤ place)
 word-parts A number place narrow = let low : place % 2 ^ 56 ≤ place = mod-le place (2 ^ 56) in (omega arith, omega arith)
 
 -- ---- each kind
@@ -103,7 +101,8 @@ mapped-word : {A B : Type 0} (g : A → B) (o : Outcome A) → word (mapped g o)
 mapped-word g (accepted a) = refl
 mapped-word g (refused number place) = refl
 
-pub shown-result : {A B R : Type 0} (kind : Kind R) (result : Outcome B → R) (g : A → B) → Result kind result → Result kind (λ (o : Outcome A). result (mapped g o))
+pub shown-result : {A B R : Type 0} (kind : Kind R) (result : Outcome B → R) (g : A → B) → Result kind result
+    → Result kind (λ (o : Outcome A). result (mapped g o))
 shown-result kind result g is = record { worded = λ o. is .worded (mapped g o) ∙ mapped-word g o; blanked = is .blanked }
 
 -- ---- what an accepted outcome's result holds
