@@ -8,6 +8,7 @@ pub mod FileCalls
 pub mod Flat
 pub mod Demand1
 pub mod OverC
+pub mod TestsInTurn
 pub mod Accepts
 pub mod Demand2
 pub mod Demand3
