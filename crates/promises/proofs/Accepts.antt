@@ -1,5 +1,5 @@
 -- When each call on lists and files accepts: it is a chain of tests, and it accepts exactly when each of them passes. Assumes nothing.
-use mathlib.Core.Path.{_≡_, refl, ap, ap₂, _∙_, sym, subst}
+use mathlib.Core.Path.{_≡_, refl, ap, sym, subst}
 use mathlib.Core.Logic.{_↔_, Iff·trans, Iff·and}
 use mathlib.Core.Bool.{Bool, true, false, not, _&&_, and-eq-true-iff}
 use mathlib.Core.List.{List}
@@ -7,26 +7,20 @@ use Prim.Native.Nat.{ℕ, _+_, _*_, _^_, _≤_, _<_}
 use native.Mathlib.Omega.{arith}
 use lib.Dec.{ltb, eqb}
 use lib.ListN.{length}
-use borrow.Author.Tests.{ltb-false, le-ltb, eqb-true, eq-eqb, ne-eqb, not-true, not-false}
-use Rattle.paper.specs.Outcome.{Outcome, accepted, passed, refuse-when-at, scan}
-use Rattle.paper.specs.Memory.{roomFor}
-use Rattle.paper.proofs.Tests.{passed-by}
-use Rattle.paper.proofs.Scan.{accepted-of, scan-accepted, scan-passed}
+use Rattle.paper.specs.Outcome.{Outcome, accepted, passed}
 use Rattle.leaves.specs.Leaves.{Leaf, Columns, leaves, room, equalColumns, uniformList}
-use Rattle.leaves.specs.Calls.{limit, most, outOfRange, listed, uniform}
+use Rattle.leaves.specs.Calls.{limit, most, outOfRange, uniform}
 use Rattle.leaves.specs.Laws.{ValidList}
-use Rattle.leaves.proofs.Listed.{in-range, columns-sound, listed-passed, listed-accepted, listed-fits, valid-passes}
+use Rattle.leaves.proofs.Listed.{columns-sound, valid-passes}
 use Rattle.balance.specs.Balance.{isBalanced, Balanced, balanced}
 use Rattle.balance.proofs.Exactly.{exact}
 use Rattle.marks.specs.Marks.{marked}
-use Rattle.marks.proofs.Marked.{marked-passed, marked-accepted}
 use Rattle.adaption.specs.Adaption.{adapted}
 use Rattle.adaption.specs.Calls.{adapt}
 use Rattle.adaption.proofs.Marks.{marks-exactly}
 use Rattle.shares.specs.Shares.{boundaries}
-use Rattle.shares.specs.Calls.{weightFault, shares}
+use Rattle.shares.specs.Calls.{shares}
 use Rattle.shares.specs.Laws.{Weighty}
-use Rattle.shares.proofs.Weights.{weights-exactly}
 use Rattle.numbers.specs.Laws.{Bytes}
 use Rattle.format.specs.File.{fileOf}
 use Rattle.format.specs.Reading.{Grid}

@@ -1,9 +1,9 @@
 -- One test after the other, and what each says: an outcome is accepted exactly when all of them pass. Assumes nothing.
-use mathlib.Core.Path.{_≡_, refl, ap, ap₂, _∙_, sym, subst}
-use mathlib.Core.Logic.{_↔_, Iff·trans, Iff·and}
-use mathlib.Core.Bool.{Bool, true, false, not, _&&_, and-eq-true-iff}
+use mathlib.Core.Path.{_≡_, refl, ap, ap₂, _∙_, sym}
+use mathlib.Core.Logic.{_↔_}
+use mathlib.Core.Bool.{Bool, true, false, not, and-eq-true-iff}
 use mathlib.Core.List.{List}
-use Prim.Native.Nat.{ℕ, _+_, _*_, _^_, _≤_, _<_}
+use Prim.Native.Nat.{ℕ, _≤_, _<_}
 use native.Mathlib.Omega.{arith}
 use lib.Dec.{ltb, eqb}
 use lib.ListN.{length}
@@ -12,29 +12,16 @@ use Rattle.paper.specs.Outcome.{Outcome, accepted, passed, refuse-when-at, scan
 use Rattle.paper.specs.Memory.{roomFor}
 use Rattle.paper.proofs.Tests.{passed-by}
 use Rattle.paper.proofs.Scan.{accepted-of, scan-accepted, scan-passed}
-use Rattle.leaves.specs.Leaves.{Leaf, Columns, leaves, room, equalColumns, uniformList}
-use Rattle.leaves.specs.Calls.{limit, most, outOfRange, listed, uniform}
+use Rattle.leaves.specs.Leaves.{Columns, equalColumns}
+use Rattle.leaves.specs.Calls.{most, outOfRange, listed}
 use Rattle.leaves.specs.Laws.{ValidList}
 use Rattle.leaves.proofs.Listed.{in-range, columns-sound, listed-passed, listed-accepted, listed-fits, valid-passes}
-use Rattle.balance.specs.Balance.{isBalanced, Balanced, balanced}
-use Rattle.balance.proofs.Exactly.{exact}
 use Rattle.marks.specs.Marks.{marked}
 use Rattle.marks.proofs.Marked.{marked-passed, marked-accepted}
-use Rattle.adaption.specs.Adaption.{adapted}
-use Rattle.adaption.specs.Calls.{adapt}
-use Rattle.adaption.proofs.Marks.{marks-exactly}
-use Rattle.shares.specs.Shares.{boundaries}
-use Rattle.shares.specs.Calls.{weightFault, shares}
+use Rattle.shares.specs.Calls.{weightFault}
 use Rattle.shares.specs.Laws.{Weighty}
 use Rattle.shares.proofs.Weights.{weights-exactly}
-use Rattle.numbers.specs.Laws.{Bytes}
-use Rattle.format.specs.File.{fileOf}
-use Rattle.format.specs.Reading.{Grid}
-use Rattle.format.specs.Laws.{FileOf}
-use Rattle.writer.specs.Calls.{write}
-use Rattle.reader.specs.Calls.{read}
-use Rattle.gridfile.proofs.Exactly.{read-exactly}
-use Rattle.promises.specs.Accepts.{Lent, Starts, TellsBalance, Adapts, Divides, Saves, Loads, Accepts}
+use Rattle.promises.specs.Accepts.{Lent}
 
 -- ---- what the tests say
 pub in-range-is : (k : ℕ) → outOfRange k ≡ false ↔ ((0 < k) × (k ≤ most))
