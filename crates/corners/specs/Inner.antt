@@ -6,20 +6,29 @@
 --   Near            the six numbers are from -512 to 512
 --   mix, Heights    one Tj from its two corners; what is known of the three: from -2^30 to 2^30
 --   blend           Q from the three
+--   Kept, keptAt    an element and its position; the element of level u at position p, with that position
+--   Tested          what the tests of the call over a column of positions have shown
 --
 -- Assumes nothing.
 use mathlib.Core.Path.{_≡_}
-use mathlib.Core.List.{[], _∷_}
-use Prim.Native.Nat.{ℕ, _+_, _*_, _/_, _%_, _^_, _≤_}
+use mathlib.Core.Bool.{true}
+use mathlib.Core.List.{List, [], _∷_}
+use Prim.Native.Nat.{ℕ, _+_, _*_, _/_, _%_, _^_, _≤_, _<_}
 use lib.IntN.{ℤ, pos, natAbs, _+ℤ_, _-ℤ_, _*ℤ_}
 use lib.ListN.{getD}
-use Rattle.tree.specs.Anchors.{EDGE}
+use Rattle.paper.specs.Outcome.{passed, checks}
+use Rattle.tree.specs.Anchors.{HIGHEST, EDGE}
+use Rattle.tree.specs.Words.{elementAt}
 use Rattle.triangle.specs.Points.{point, cornersBy}
+use Rattle.prism.specs.Elements.{CORNERS, prism}
 use Rattle.prism.specs.Points.{lifted}
 use Rattle.prism.specs.Points as prisms
 use Rattle.corners.specs.declared.Root.{Root}
 use Rattle.corners.specs.declared.work.Axis.{Axis}
 use Rattle.corners.specs.declared.work.Local.{Local}
+use Rattle.corners.specs.declared.section.Kept.{Kept}
+use Rattle.corners.specs.CornerPoints.{rootWithin}
+use Rattle.corners.specs.Section.{PointColumns, equalLengths, positionFault}
 
 abbrev pub along : Axis → ℕ → ℤ
 along a j = getD (a .v0 ∷ a .v1 ∷ a .v2 ∷ a .v3 ∷ a .v4 ∷ a .v5 ∷ []) j (a .v0)
@@ -62,3 +71,14 @@ localOf c = record { x = c .plan .x; y = c .plan .y; z = c .height }
 
 abbrev pub cornerOf : Local → prisms.Corner
 cornerOf p = lifted (p .z) (point (p .x) (p .y))
+
+abbrev pub keptAt : ℕ → ℕ → Kept
+keptAt u p = record { position = p; parent = elementAt prism u p }
+
+-- the tests of a section have passed
+pub record Tested (l : ℕ) (ps : List ℕ) (i : ℕ) (r : Root) (m : PointColumns) : Type 0 where
+  pub equal : equalLengths ps m ≡ true
+  pub shallow : l ≤ HIGHEST
+  pub inside : checks (positionFault l) ps ≡ passed
+  pub numbered : i < CORNERS
+  pub near : rootWithin r ≡ true

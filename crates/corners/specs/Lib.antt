@@ -1,3 +1,4 @@
 pub mod CornerPoints
+pub mod Section
 pub mod Inner
 pub mod Laws

@@ -1,10 +1,14 @@
-// Corner points: where a corner of an element lies in space, exactly. `specs/CornerPoints.antt` says what the call answers.
+// Corner points: where a corner of an element lies in space, exactly. `specs/CornerPoints.antt` says what the single call answers,
+// `specs/Section.antt` the one over a column of positions.
+use paper::PassAnswer;
 use prism::Prism;
 use prism::PrismAnswer;
 use tree::HIGHEST;
 ghost use mathlib.Core.Path.{_≡_};
 ghost use Rattle.corners.specs.CornerPoints.{pointOf, cornerPoint};
+ghost use Rattle.corners.specs.Section.{pointColumns, SectionFilled};
 
+mod section;
 mod work;
 
 // One of a root's six corners.
@@ -60,4 +64,39 @@ pub fn corner_point(level: u8, position: u64, corner: u8, root: Root) -> PointAn
         return PointAnswer::Refused(5, 0);
     };
     PointAnswer::Is(work::placed(root, work::local_of(e, corner)))
+}
+
+// The points of a corner of the elements of a level at some positions, one coordinate a column. Refused: 11, 1, 5 at the first position
+// that the level has not, 8, 24.
+pub fn corner_points(
+    level: u8,
+    positions: &[u64],
+    corner: u8,
+    root: Root,
+    xs: &mut [f64],
+    ys: &mut [f64],
+    zs: &mut [f64],
+) -> PassAnswer
+    ensures { λ r. ⌜ SectionFilled level (now (positions .entry)) corner root r
+        (pointColumns (now (xs .entry)) (now (ys .entry)) (now (zs .entry)))
+        (pointColumns (now (xs .exit)) (now (ys .exit)) (now (zs .exit))) ⌝ }
+{
+    if !section::equal_lengths(positions.len(), xs.len(), ys.len(), zs.len()) {
+        return PassAnswer::Refused(11, 0);
+    }
+    if HIGHEST < level {
+        return PassAnswer::Refused(1, 0);
+    }
+    let fault = section::beyond(level, positions);
+    if fault.number != 0 {
+        return PassAnswer::Refused(fault.number, fault.place);
+    }
+    if Prism::CORNERS <= corner {
+        return PassAnswer::Refused(8, 0);
+    }
+    if !root.within() {
+        return PassAnswer::Refused(24, 0);
+    }
+    section::fill(level, positions, corner, root, xs, ys, zs);
+    PassAnswer::Passed
 }

@@ -5,7 +5,7 @@ use Prim.Native.Nat.{ℕ, zero, suc, _+_, _≤_, _<_}
 use native.Mathlib.Nat.{add-suc, suc-add, add-zero, zero-add}
 use native.Mathlib.Numerals.{add-one}
 use native.Mathlib.Omega.{arith}
-use lib.ListN.{length, drop, set, length-append, length-drop}
+use lib.ListN.{length, drop, getD, set, length-append, length-drop}
 use lib.Seq.{drop-cons, drop-drop, set-at, sets, sets-eq, take-append-seam, drop-append-add}
 use Rattle.paper.specs.Outcome.{rows}
 use Rattle.paper.specs.Memory.{written}
@@ -18,20 +18,30 @@ rows-two f i (suc a) m =
     ap (rows f i) (suc-add a m)
     ∙ ap (λ (xs : List _). f i ∷ xs) (rows-two f (suc i) a m ∙ ap (λ (j : ℕ). rows f (suc i) a ++ rows f j m) (suc-add i a ∙ sym (add-suc i a)))
 
+-- from the next entry on
+rows-later : {A : Type 0} (f : ℕ → A) (i k : ℕ) → rows f (suc i) k ≡ rows (λ j. f (suc j)) i k
+rows-later f i zero = refl
+rows-later f i (suc k) = ap (λ (xs : List _). f (suc i) ∷ xs) (rows-later f (suc i) k)
+
 -- one entry more at the end
 rows-snoc : {A : Type 0} (f : ℕ → A) (i k : ℕ) → rows f i (suc k) ≡ rows f i k ++ (f (i + k) ∷ [])
 rows-snoc f i zero = ap (λ (j : ℕ). f j ∷ []) (sym (add-zero i))
 rows-snoc f i (suc k) = ap (λ (xs : List _). f i ∷ xs) (rows-snoc f (suc i) k ∙ ap (λ (j : ℕ). rows f (suc i) k ++ (f j ∷ [])) (suc-add i k ∙ sym (add-suc i k)))
+
+-- what a list's own entries make is the list under a map
+pub rows-map : {A B : Type 0} (g : A → B) (l : List A) (d : A) → rows (λ j. g (getD l j d)) 0 (length l) ≡ map g l
+rows-map g [] d = refl
+rows-map g (a ∷ l) d = ap (λ (xs : List _). g a ∷ xs) (rows-later (λ j. g (getD (a ∷ l) j d)) 0 (length l) ∙ rows-map g l d)
 
 pub map-rows : {A B : Type 0} (g : A → B) (f : ℕ → A) (i k : ℕ) → map g (rows f i k) ≡ rows (λ j. g (f j)) i k
 map-rows g f i zero = refl
 map-rows g f i (suc k) = ap (λ (xs : List _). g (f i) ∷ xs) (map-rows g f (suc i) k)
 
 -- writing at the front keeps the length
-pub written-length : (xs l : List ℕ) → length xs ≤ length l → length (written xs l) ≡ length l
+pub written-length : {A : Type 0} (xs l : List A) → length xs ≤ length l → length (written xs l) ≡ length l
 written-length xs l room = length-append xs (drop (length xs) l) ∙ omega (arith, length-drop (length xs) l)
 
-module _ (f : ℕ → ℕ) (l : List ℕ) where
+module _ {A : Type 0} (f : ℕ → A) (l : List A) where
   pub front-none : l ≡ written (rows f 0 0) l
   front-none = refl
 
@@ -44,9 +54,9 @@ module _ (f : ℕ → ℕ) (l : List ℕ) where
       let tail : drop (length (rows f 0 i)) l ≡ drop i l = ap (λ (k : ℕ). drop k l) long in
       let more : rows f 0 (i + 1) ≡ rows f 0 i ++ (f i ∷ []) = ap (rows f 0) (add-one i) ∙ rows-snoc f 0 i ∙ ap (λ (j : ℕ). rows f 0 i ++ (f j ∷ [])) (zero-add i) in
       let longer : length (rows f 0 (i + 1)) ≡ suc i = rows-length f 0 (i + 1) ∙ add-one i in
-      ap (λ (t : List ℕ). set (rows f 0 i ++ t) i (f i)) (tail ∙ drop-cons l i 0 inside)
+      ap (λ (t : List A). set (rows f 0 i ++ t) i (f i)) (tail ∙ drop-cons l i (f i) inside)
       ∙ set-at (rows f 0 i) _ (drop (suc i) l) (f i) i long
-      ∙ sym (ap₂ (λ (xs : List ℕ) (k : ℕ). xs ++ drop k l) more longer ∙ append-assoc (rows f 0 i) (f i ∷ []) (drop (suc i) l))
+      ∙ sym (ap₂ (λ (xs : List A) (k : ℕ). xs ++ drop k l) more longer ∙ append-assoc (rows f 0 i) (f i ∷ []) (drop (suc i) l))
 
 -- ---- a run of entries, stored from an index on
 sets-snoc : (l : List ℕ) (i : ℕ) (xs : List ℕ) (a : ℕ) → sets l i (xs ++ (a ∷ [])) ≡ set (sets l i xs) (i + length xs) a

@@ -8,7 +8,8 @@ use native.Mathlib.Nat.{add-zero, add-suc, suc-add}
 use native.Mathlib.Numerals.{add-one}
 use native.Mathlib.Omega.{arith}
 use lib.Dec.{eqb}
-use lib.ListN.{length, getD}
+use lib.ListN.{length, drop, getD}
+use lib.Seq.{drop-cons}
 use borrow.Author.Tests.{eq-eqb, ne-eqb, eqb-true, not-false}
 use Rattle.paper.specs.Outcome.{Outcome, accepted, passed, refused, refuse-when-at, scan, rows}
 use Rattle.paper.proofs.Tests.{passed-by}
@@ -72,6 +73,26 @@ scan-each fault i (e ∷ es) d zero h below =
 scan-each fault i (e ∷ es) d (suc j) h below =
     let a = accepted-by (not (eqb (fault e) 0)) (fault e) i (scan fault (suc i) es passed) h in
     scan-each fault (suc i) es d j (a .1) (omega arith)
+
+-- and where each is, the scan passes
+pub scan-sound : {A : Type 0} (fault : A → ℕ) (i : ℕ) (es : List A) (d : A) → ((j : ℕ) → j < length es → fault (getD es j d) ≡ 0) → scan fault i es passed ≡ passed
+scan-sound fault i [] d each = refl
+scan-sound fault i (e ∷ es) d each =
+    fault-none (fault e) i _ (each 0 (omega arith)) ∙ scan-sound fault (suc i) es d (λ j below. each (suc j) (omega arith))
+
+-- ---- one entry more of a list, as a loop meets it
+module _ {A B : Type 0} (fault : A → ℕ) (rest : Outcome B) (es : List A) (d : A) (i : ℕ) (inside : i < length es) where
+  at-entry : scan fault i (drop i es) rest ≡ scan fault i (getD es i d ∷ drop (i + 1) es) rest
+  at-entry = ap (λ (l : List A). scan fault i l rest) (drop-cons es i d inside ∙ ap (λ (k : ℕ). getD es i d ∷ drop k es) (sym (add-one i)))
+
+  pub entry-found : (fault (getD es i d) ≡ 0 → ⊥) → scan fault i (drop i es) rest ≡ refused (fault (getD es i d)) i
+  entry-found some = at-entry ∙ fault-taken (fault (getD es i d)) i _ some
+
+  pub entry-next : fault (getD es i d) ≡ 0 → scan fault i (drop i es) rest ≡ scan fault (i + 1) (drop (i + 1) es) rest
+  entry-next none =
+      at-entry
+      ∙ fault-none (fault (getD es i d)) i _ none
+      ∙ ap (λ (k : ℕ). scan fault k (drop (i + 1) es) rest) (sym (add-one i))
 
 module _ {A B : Type 0} (fault : A → ℕ) where
   pub scan-passed : (i : ℕ) (es : List A) (rest : Outcome B) → scan fault i es passed ≡ passed → scan fault i es rest ≡ rest

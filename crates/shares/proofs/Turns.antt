@@ -12,7 +12,7 @@ use lib.ListN.{length, getD, take, drop}
 use lib.Seq.{drop-cons}
 use borrow.Author.Tests.{leb-true, le-leb, eq-eqb, ne-eqb}
 use Rattle.paper.specs.Outcome.{Outcome, refused, scan}
-use Rattle.paper.proofs.Scan.{fault-none}
+use Rattle.paper.proofs.Scan.{entry-found, entry-next}
 use Rattle.leaves.proofs.Span.{more-mul}
 use Rattle.shares.specs.Shares.{total, boundary}
 use Rattle.shares.specs.Calls.{weightFault}
@@ -22,19 +22,13 @@ use Rattle.shares.proofs.Sums.{total-next, total-part, total-rises}
 
 -- ---- the first weight 0
 module _ {A : Type 0} (rest : Outcome A) (ws : List ℕ) (i : ℕ) (inside : i < length ws) where
-  at-weight : scan weightFault i (drop i ws) rest ≡ scan weightFault i (getD ws i 0 ∷ drop (i + 1) ws) rest
-  at-weight =
-      ap (λ (xs : List ℕ). scan weightFault i xs rest)
-      (drop-cons ws i 0 inside ∙ ap (λ (k : ℕ). getD ws i 0 ∷ drop k ws) (sym (add-one i)))
-
   pub weight-found : getD ws i 0 ≡ 0 → scan weightFault i (drop i ws) rest ≡ refused 16 i
-  weight-found none = at-weight ∙ simp (eq-eqb (getD ws i 0) 0 none)
+  weight-found none =
+      let is : weightFault (getD ws i 0) ≡ 16 = simp (eq-eqb (getD ws i 0) 0 none) in
+      entry-found weightFault rest ws 0 i inside (λ nothing. omega (arith, is, nothing)) ∙ ap (λ (number : ℕ). refused number i) is
 
   pub weight-next : (getD ws i 0 ≡ 0 → ⊥) → scan weightFault i (drop i ws) rest ≡ scan weightFault (i + 1) (drop (i + 1) ws) rest
-  weight-next some =
-      at-weight
-      ∙ fault-none (weightFault (getD ws i 0)) i _ (simp (ne-eqb (getD ws i 0) 0 some))
-      ∙ ap (λ (k : ℕ). scan weightFault k (drop (i + 1) ws) rest) (sym (add-one i))
+  weight-next some = entry-next weightFault rest ws 0 i inside (simp (ne-eqb (getD ws i 0) 0 some))
 
 -- ---- as far as the limit
 module _ {ws : List ℕ} {limit count sum : ℕ} where

@@ -1,0 +1,184 @@
+// What the call over a column of positions does: the tests of its columns, and the points, one after the other. An element is a step down from
+// its parent, which is kept: positions in order share it, eight of them.
+use crate::Root;
+use crate::work;
+use crate::work::Local;
+use paper::Fault;
+use prism::Prism;
+use prism::PrismAnswer;
+use triangle::Triangle;
+ghost use mathlib.Core.Path.{_≡_};
+ghost use mathlib.Core.Bool.{true, _&&_};
+ghost use Prim.Native.Nat.{ℕ, _-_, _/_, _^_, _<_, _≤_};
+ghost use lib.Dec.{eqb};
+ghost use lib.ListN.{length, getD};
+ghost use Rattle.paper.specs.Outcome.{checks};
+ghost use Rattle.paper.specs.Readings.{checksOf};
+ghost use Rattle.tree.specs.Anchors.{HIGHEST};
+ghost use Rattle.tree.specs.Laws.{Sound};
+ghost use Rattle.tree.specs.Words.{elementAt};
+ghost use Rattle.prism.specs.Elements.{CHILDREN, CORNERS, prism};
+ghost use Rattle.prism.specs.Points as prisms;
+ghost use Rattle.corners.specs.CornerPoints.{rootWithin};
+ghost use Rattle.corners.specs.Section.{pointColumns, positionFault, points, filled};
+ghost use Rattle.corners.specs.Inner.{localOf, keptAt, Tested};
+
+// The parent of the last element, and its position. In level 0 it is the root, which is the element itself.
+struct Kept {
+    position: u64,
+    parent: Prism,
+}
+
+pub(crate) fn equal_lengths(positions: usize, xs: usize, ys: usize, zs: usize) -> bool
+    ensures { λ r. ⌜ r ≡ (eqb positions xs && (eqb positions ys && eqb positions zs)) ⌝ }
+{
+    if positions != xs {
+        return false;
+    }
+    if positions != ys {
+        return false;
+    }
+    positions == zs
+}
+
+// The first position that the level has not, as a fault 5 at its place. It is looked for only where there may be one.
+pub(crate) fn beyond(level: u8, positions: &[u64]) -> Fault
+    requires { ⌜ level ≤ HIGHEST ⌝ }
+    ensures { λ r. ⌜ checksOf r ≡ checks (positionFault level) (now (positions .entry)) ⌝ }
+{
+    if merged(positions) < 1u64 << (3 * level) {
+        return Fault {
+            number: 0,
+            place: 0,
+        };
+    }
+    first_beyond(level, positions)
+}
+
+// All the bits of the positions: no position is larger. Without a way out in between they go many at a time.
+fn merged(positions: &[u64]) -> u64
+    ensures { λ r. ⌜ ((j : ℕ) → j < length (now (positions .entry)) → getD (now (positions .entry)) j 0 ≤ r) ⌝ }
+{
+    let mut bits = 0;
+    let mut i = 0;
+    while i < positions.len() {
+        bits = bits | positions[i];
+        i += 1;
+    }
+    bits
+}
+
+fn first_beyond(level: u8, positions: &[u64]) -> Fault
+    requires { ⌜ level ≤ HIGHEST ⌝ }
+    ensures { λ r. ⌜ checksOf r ≡ checks (positionFault level) (now (positions .entry)) ⌝ }
+{
+    let mut i = 0;
+    while i < positions.len() {
+        if 1u64 << (3 * level) <= positions[i] {
+            return Fault {
+                number: 5,
+                place: i as u64,
+            };
+        }
+        i += 1;
+    }
+    Fault {
+        number: 0,
+        place: 0,
+    }
+}
+
+// The points, in the order of their positions.
+pub(crate) fn fill(
+    level: u8,
+    positions: &[u64],
+    corner: u8,
+    root: Root,
+    xs: &mut [f64],
+    ys: &mut [f64],
+    zs: &mut [f64],
+)
+    requires { ⌜ Tested level (now positions) corner root (pointColumns (now xs) (now ys) (now zs)) ⌝ }
+    ensures { λ _. ⌜ pointColumns (now (xs .exit)) (now (ys .exit)) (now (zs .exit))
+        ≡ filled (points level (now (positions .entry)) corner root)
+        (pointColumns (now (xs .entry)) (now (ys .entry)) (now (zs .entry))) ⌝ }
+{
+    let upper = above(level);
+    let mut kept = walked(upper, 0);
+    let mut i = 0;
+    while i < positions.len() {
+        let position = positions[i];
+        kept = next(upper, position / 8, kept);
+        let local = local_at(level, position, kept.parent, corner);
+        let p = work::placed(root, local);
+        xs[i] = p.x;
+        ys[i] = p.y;
+        zs[i] = p.z;
+        i += 1;
+    }
+}
+
+// The level of the parents; level 0 has none, and stays.
+fn above(level: u8) -> u8
+    ensures { λ r. ⌜ r ≡ level - 1 ⌝ }
+{
+    if level == 0 {
+        return 0;
+    }
+    level - 1
+}
+
+// Down from the root.
+fn walked(upper: u8, position: u64) -> Kept
+    requires { ⌜ (upper ≤ HIGHEST) × (position < CHILDREN ^ upper) ⌝ }
+    ensures { λ r. ⌜ r ≡ keptAt upper position ⌝ }
+{
+    // The position is one of the level's, so there is an element.
+    let PrismAnswer::Is(parent) = Prism::at(upper, position) else {
+        let parent = Prism {
+            x: 0,
+            y: 0,
+            z: 0,
+            level: 0,
+            kind: 0,
+        };
+        return Kept { position, parent };
+    };
+    Kept { position, parent }
+}
+
+// The parent at a position, which the last one may be.
+fn next(upper: u8, position: u64, kept: Kept) -> Kept
+    requires { ⌜ (upper ≤ HIGHEST) × ((position < CHILDREN ^ upper) × (kept ≡ keptAt upper (kept .position))) ⌝ }
+    ensures { λ r. ⌜ r ≡ keptAt upper position ⌝ }
+{
+    if position == kept.position {
+        return kept;
+    }
+    walked(upper, position)
+}
+
+// A corner of the element at a position, from its parent.
+fn local_at(level: u8, position: u64, parent: Prism, corner: u8) -> Local
+    requires { ⌜ (level ≤ HIGHEST) × ((position < CHILDREN ^ level) × ((corner < CORNERS) × (parent ≡ elementAt prism (level - 1) (position / CHILDREN)))) ⌝ }
+    ensures { λ r. ⌜ r ≡ localOf (prisms.corner HIGHEST (elementAt prism level position) corner) ⌝ }
+{
+    if level == 0 {
+        return work::local_of(parent, corner);
+    }
+    local_below(parent, (position % 8) as u8, corner)
+}
+
+// A corner of a child: its step from the parent's anchor and the corner's from its own, both in sides of the child.
+fn local_below(parent: Prism, number: u8, corner: u8) -> Local
+    requires { ⌜ (Sound prism parent) × ((parent .level < HIGHEST) × ((number < CHILDREN) × (corner < CORNERS))) ⌝ }
+    ensures { λ r. ⌜ r ≡ localOf (prisms.corner HIGHEST (prism .child parent number) corner) ⌝ }
+{
+    let h = tree::side(parent.level + 1);
+    let row = rows::child_row(parent.kind, number);
+    let s = work::sides(row.kind, corner % Triangle::CORNERS);
+    let x = parent.x + (row.x + s / 2) as u32 * h;
+    let y = parent.y + (row.y + s % 2) as u32 * h;
+    let z = parent.z + (number / 4 + corner / Triangle::CORNERS) as u32 * h;
+    Local { x, y, z }
+}
