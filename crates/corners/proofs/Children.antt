@@ -55,6 +55,6 @@ below e n i h s row same is sound corner =
     let child : Step → ℕ → Prism = λ q m. record { x = e .x + q .x * m; y = e .y + q .y * m; z = e .z + n / 4 * m; level = suc (e .level); kind = q .kind } in
     let local : ℕ → ℕ → ℕ → Local = λ x y z. record { x = x; y = y; z = z } in
     let parts : local (e .x + (row .x + s / 2) * h) (e .y + (row .y + s % 2) * h) (e .z + (n / 4 + i / 3) * h)
-        ≡ local (child row h .x + s / 2 * h) (child row h .y + s % 2 * h) (child row h .z + i / 3 * h) =
+    ≡ local (child row h .x + s / 2 * h) (child row h .y + s % 2 * h) (child row h .z + i / 3 * h) =
     λ k. record { x = shared (e .x) (row .x) (s / 2) h k; y = shared (e .y) (row .y) (s % 2) h k; z = shared (e .z) (n / 4) (i / 3) h k } in
     parts ∙ found (child row h) i h s sized corner ∙ ap₂ (λ (q : Step) (m : ℕ). localOf (prisms.corner 21 (child q m) i)) in-row sized

@@ -2,7 +2,7 @@
 -- Definitions only.
 --
 --   countOf o        the result of a call whose value is how many entries or bytes it wrote
---   UniformResult, AdaptResult, SharesResult, WriteResult, ReadResult, OrderResult
+--   PointsResult, UniformResult, AdaptResult, SharesResult, WriteResult, ReadResult, OrderResult
 --                    the contracts, of a call that returned r, found the memory m and left m′
 --
 -- Assumes nothing.
@@ -12,6 +12,9 @@ use lib.ListN.{length}
 use Rattle.paper.specs.Outcome.{Outcome, mapped}
 use Rattle.paper.specs.Memory.{written, Fulfils}
 use Rattle.tree.specs.Anchors.{HIGHEST}
+use Rattle.corners.specs.declared.Root.{Root}
+use Rattle.corners.specs.declared.Point.{Point}
+use Rattle.corners.specs.Section.{PointColumns, cornerPoints, filled}
 use Rattle.leaves.specs.Leaves.{CHILDREN, Columns, front}
 use Rattle.leaves.specs.Calls.{uniform}
 use Rattle.adaption.specs.Calls.{adapt}
@@ -30,6 +33,10 @@ itself r = r
 
 abbrev pub countOf : {A : Type 0} → Outcome (List A) → NumberResult
 countOf o = numberResult (mapped length o)
+
+abbrev pub PointsResult : ℕ → List ℕ → ℕ → Root → ℕ → PointColumns → PointColumns → Type 0
+PointsResult level positions corner root r m m′ =
+    Fulfils itself (λ o. passResult (mapped (λ (found : List Point). tt) o)) filled (cornerPoints level positions corner root m) r m m′
 
 abbrev pub UniformResult : ℕ → ℕ → NumberResult → Columns → Columns → Type 0
 UniformResult k level r m m′ = Fulfils itself countOf front (uniform CHILDREN HIGHEST k level m) r m m′

@@ -56,10 +56,13 @@ next-requires c κs =
     let a = start .args in
     let is = c .before .before .before .before .above .ensures in
     let p = getD (a .positions .now) (c .before .before .loop .i) 0 in
-    let inside = each-inside (a .level) (a .positions .now) (start .pre .inside) (c .before .before .loop .i) (c .before .loop-test .taken) in
-    (omega (arith, is, start .pre .shallow),
-    (subst⁻¹ (λ (u : ℕ). p / 8 < 8 ^ u) is (parent-inside (a .level) p inside),
-    subst⁻¹ (λ (u : ℕ). c .before .before .loop .kept ≡ keptAt u (c .before .before .loop .kept .position)) is (c .before .before .loop .inv .held)))
+    let inside = each-inside (a .level) (a .positions .now) (start .pre .inside) (c .before .before .loop .i) (c .before .loop-test .taken) in (
+      omega (arith, is, start .pre .shallow),
+      (
+        subst⁻¹ (λ (u : ℕ). p / 8 < 8 ^ u) is (parent-inside (a .level) p inside),
+        subst⁻¹ (λ (u : ℕ). c .before .before .loop .kept ≡ keptAt u (c .before .before .loop .kept .position)) is (c .before .before .loop .inv .held),
+      ),
+    )
 
 local-at-requires : tie.Need-local-at-requires Inv-loop μ-loop
 local-at-requires c κs =
@@ -67,10 +70,13 @@ local-at-requires c κs =
     let a = start .args in
     let now-at = c .before .before .before .loop in
     let p = getD (a .positions .now) (now-at .i) 0 in
-    let inside = each-inside (a .level) (a .positions .now) (start .pre .inside) (now-at .i) (c .before .before .loop-test .taken) in
-    (start .pre .shallow,
-    (inside,
-    (start .pre .numbered, ap (λ (k : Kept). k .parent) (c .next .ensures) ∙ ap (λ (u : ℕ). elementAt prism u (p / 8)) (c .before .before .before .before .before .above .ensures))))
+    let inside = each-inside (a .level) (a .positions .now) (start .pre .inside) (now-at .i) (c .before .before .loop-test .taken) in (
+      start .pre .shallow,
+      (
+        inside,
+        (start .pre .numbered, ap (λ (k : Kept). k .parent) (c .next .ensures) ∙ ap (λ (u : ℕ). elementAt prism u (p / 8)) (c .before .before .before .before .before .above .ensures)),
+      ),
+    )
 
 placed-requires : tie.Need-placed-requires Inv-loop μ-loop
 placed-requires c κs =
@@ -78,10 +84,11 @@ placed-requires c κs =
     let a = start .args in
     let now-at = c .before .before .before .before .loop in
     let p = getD (a .positions .now) (now-at .i) 0 in
-    let inside = each-inside (a .level) (a .positions .now) (start .pre .inside) (now-at .i) (c .before .before .before .loop-test .taken) in
-    (start .pre .near,
-    subst⁻¹ (λ (x : Local). InRoot 21 (cornerOf x)) (c .local-at .ensures)
-    (corner-in-root 21 _ _ (element-sound (a .level) p (start .pre .shallow) inside) (start .pre .numbered)))
+    let inside = each-inside (a .level) (a .positions .now) (start .pre .inside) (now-at .i) (c .before .before .before .loop-test .taken) in (
+      start .pre .near,
+      subst⁻¹ (λ (x : Local). InRoot 21 (cornerOf x)) (c .local-at .ensures)
+          (corner-in-root 21 _ _ (element-sound (a .level) p (start .pre .shallow) inside) (start .pre .numbered)),
+    )
 
 mul-xs : tie.Need-mul-xs Inv-loop μ-loop
 mul-xs c = mul-position (c .before .before .before .before)

@@ -32,10 +32,13 @@ cast-local-below c = search needs
 local-below-requires : tie.Need-local-below-requires
 local-below-requires c κs =
     let a = c .before .args in
-    let pre = c .before .pre in
-    (subst⁻¹ (Sound prism) (pre .1 .1 .1) (parent-sound (a .level) (a .position) (pre .0) (pre .1 .0)),
-    (subst⁻¹ (λ (e : Prism). e .level < 21) (pre .1 .1 .1) (parent-above (a .level) (a .position) (pre .0) (pre .1 .0) (c .if1 .left)),
-    (mod-lt (a .position) (lit< tt), pre .1 .1 .0)))
+    let pre = c .before .pre in (
+      subst⁻¹ (Sound prism) (pre .1 .1 .1) (parent-sound (a .level) (a .position) (pre .0) (pre .1 .0)),
+      (
+        subst⁻¹ (λ (e : Prism). e .level < 21) (pre .1 .1 .1) (parent-above (a .level) (a .position) (pre .0) (pre .1 .0) (c .if1 .left)),
+        (mod-lt (a .position) (lit< tt), pre .1 .1 .0),
+      ),
+    )
 
 returns-2 : tie.Need-returns-2
 returns-2 c =
