@@ -9,7 +9,6 @@ pub mod Call
 pub mod RootCorners
 pub mod Promised
 pub mod Controls
-pub mod Positions
 pub mod Children
 pub mod Parents
 pub mod Filling

@@ -23,12 +23,13 @@ use Rattle.triangle.specs.Points.{point, cornersBy}
 use Rattle.prism.specs.Elements.{CORNERS, prism}
 use Rattle.prism.specs.Points.{lifted}
 use Rattle.prism.specs.Points as prisms
+use Rattle.positions.specs.Positions.{positionFault}
 use Rattle.corners.specs.declared.Root.{Root}
 use Rattle.corners.specs.declared.work.Axis.{Axis}
 use Rattle.corners.specs.declared.work.Local.{Local}
 use Rattle.corners.specs.declared.section.Kept.{Kept}
 use Rattle.corners.specs.CornerPoints.{rootWithin}
-use Rattle.corners.specs.Section.{PointColumns, equalLengths, positionFault}
+use Rattle.corners.specs.Section.{PointColumns, equalLengths}
 
 abbrev pub along : Axis → ℕ → ℤ
 along a j = getD (a .v0 ∷ a .v1 ∷ a .v2 ∷ a .v3 ∷ a .v4 ∷ a .v5 ∷ []) j (a .v0)

@@ -3,7 +3,6 @@
 --
 --   PointColumns      "three columns of f64": xs, ys, zs
 --   equalLengths      whether the column of positions and the three are equally long
---   positionFault l   5 for a position that the level l has not
 --   points l ps i r   "The result equals the single calls one by one": the point of corner i at each of the positions ps
 --   cornerPoints      the call: "columns of different lengths are refused first", then "Checks run in the single call's order", 1, 5, 8, 24; "the
 --                     place of a 5 is the first bad index. Every position is checked before the corner number"
@@ -13,18 +12,19 @@
 -- Not here: the single call (`CornerPoints.antt`), that the two agree (`OneByOne` in `Laws.antt`). Assumes nothing.
 use mathlib.Core.Bool.{Bool, not, _&&_}
 use mathlib.Core.List.{List, map}
-use Prim.Native.Nat.{ℕ, _^_}
+use Prim.Native.Nat.{ℕ}
 use lib.Dec.{leb, ltb, eqb}
 use lib.ListN.{length}
 use lib.Ieee.{Float}
-use Rattle.paper.specs.Outcome.{Outcome, accepted, mapped, refuse-when, fault-when, scan}
+use Rattle.paper.specs.Outcome.{Outcome, accepted, mapped, refuse-when, scan}
 use Rattle.paper.specs.Memory.{written, Fulfils}
 use Rattle.paper.specs.Readings.{passOf}
 use Rattle.paper.specs.declared.PassAnswer.{PassAnswer}
 use Rattle.tree.specs.Anchors.{HIGHEST}
 use Rattle.tree.specs.Words.{elementAt}
-use Rattle.prism.specs.Elements.{CHILDREN, CORNERS, prism}
+use Rattle.prism.specs.Elements.{CORNERS, prism}
 use Rattle.prism.specs.Points as prisms
+use Rattle.positions.specs.Positions.{positionFault}
 use Rattle.corners.specs.declared.Root.{Root}
 use Rattle.corners.specs.declared.Point.{Point}
 use Rattle.corners.specs.CornerPoints.{rootWithin, pointAt}
@@ -40,9 +40,6 @@ pointColumns xs ys zs = record { xs = xs; ys = ys; zs = zs }
 abbrev pub equalLengths : List ℕ → PointColumns → Bool
 equalLengths ps m =
     eqb (length ps) (length (m .xs)) && (eqb (length ps) (length (m .ys)) && eqb (length ps) (length (m .zs)))
-
-abbrev pub positionFault : ℕ → ℕ → ℕ
-positionFault l p = fault-when (leb (CHILDREN ^ l) p) 5 0
 
 abbrev pub points : ℕ → List ℕ → ℕ → Root → List Point
 points l ps i r = map (λ p. pointAt r (prisms.corner HIGHEST (elementAt prism l p) i)) ps

@@ -84,10 +84,7 @@ pub fn corner_points(
     if !section::equal_lengths(positions.len(), xs.len(), ys.len(), zs.len()) {
         return PassAnswer::Refused(11, 0);
     }
-    if HIGHEST < level {
-        return PassAnswer::Refused(1, 0);
-    }
-    let fault = section::beyond(level, positions);
+    let fault = positions::check(level, positions);
     if fault.number != 0 {
         return PassAnswer::Refused(fault.number, fault.place);
     }

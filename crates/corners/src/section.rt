@@ -1,26 +1,21 @@
-// What the call over a column of positions does: the tests of its columns, and the points, one after the other. An element is a step down from
-// its parent, which is kept: positions in order share it, eight of them.
+// What the call over a column of positions does: the points, one after the other. An element is a step down from its parent, which is kept:
+// positions in order share it, eight of them.
 use crate::Root;
 use crate::work;
 use crate::work::Local;
-use paper::Fault;
 use prism::Prism;
 use prism::PrismAnswer;
 use triangle::Triangle;
 ghost use mathlib.Core.Path.{_≡_};
-ghost use mathlib.Core.Bool.{true, _&&_};
-ghost use Prim.Native.Nat.{ℕ, _-_, _/_, _^_, _<_, _≤_};
+ghost use mathlib.Core.Bool.{_&&_};
+ghost use Prim.Native.Nat.{_-_, _/_, _^_, _<_, _≤_};
 ghost use lib.Dec.{eqb};
-ghost use lib.ListN.{length, getD};
-ghost use Rattle.paper.specs.Outcome.{checks};
-ghost use Rattle.paper.specs.Readings.{checksOf};
 ghost use Rattle.tree.specs.Anchors.{HIGHEST};
 ghost use Rattle.tree.specs.Laws.{Sound};
 ghost use Rattle.tree.specs.Words.{elementAt};
 ghost use Rattle.prism.specs.Elements.{CHILDREN, CORNERS, prism};
 ghost use Rattle.prism.specs.Points as prisms;
-ghost use Rattle.corners.specs.CornerPoints.{rootWithin};
-ghost use Rattle.corners.specs.Section.{pointColumns, positionFault, points, filled};
+ghost use Rattle.corners.specs.Section.{pointColumns, points, filled};
 ghost use Rattle.corners.specs.Inner.{localOf, keptAt, Tested};
 
 // The parent of the last element, and its position. In level 0 it is the root, which is the element itself.
@@ -39,53 +34,6 @@ pub(crate) fn equal_lengths(positions: usize, xs: usize, ys: usize, zs: usize) -
         return false;
     }
     positions == zs
-}
-
-// The first position that the level has not, as a fault 5 at its place. It is looked for only where there may be one.
-pub(crate) fn beyond(level: u8, positions: &[u64]) -> Fault
-    requires { ⌜ level ≤ HIGHEST ⌝ }
-    ensures { λ r. ⌜ checksOf r ≡ checks (positionFault level) (now (positions .entry)) ⌝ }
-{
-    if merged(positions) < 1u64 << (3 * level) {
-        return Fault {
-            number: 0,
-            place: 0,
-        };
-    }
-    first_beyond(level, positions)
-}
-
-// All the bits of the positions: no position is larger. Without a way out in between they go many at a time.
-fn merged(positions: &[u64]) -> u64
-    ensures { λ r. ⌜ ((j : ℕ) → j < length (now (positions .entry)) → getD (now (positions .entry)) j 0 ≤ r) ⌝ }
-{
-    let mut bits = 0;
-    let mut i = 0;
-    while i < positions.len() {
-        bits = bits | positions[i];
-        i += 1;
-    }
-    bits
-}
-
-fn first_beyond(level: u8, positions: &[u64]) -> Fault
-    requires { ⌜ level ≤ HIGHEST ⌝ }
-    ensures { λ r. ⌜ checksOf r ≡ checks (positionFault level) (now (positions .entry)) ⌝ }
-{
-    let mut i = 0;
-    while i < positions.len() {
-        if 1u64 << (3 * level) <= positions[i] {
-            return Fault {
-                number: 5,
-                place: i as u64,
-            };
-        }
-        i += 1;
-    }
-    Fault {
-        number: 0,
-        place: 0,
-    }
 }
 
 // The points, in the order of their positions.

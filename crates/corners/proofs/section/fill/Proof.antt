@@ -11,13 +11,13 @@ use Rattle.prism.specs.Elements.{prism}
 use Rattle.prism.specs.Points.{InRoot}
 use Rattle.prism.specs.Points as prisms
 use Rattle.prism.proofs.Inside.{corner-in-root}
+use Rattle.positions.proofs.Checking.{each-inside}
 use Rattle.corners.specs.declared.work.Local.{Local}
 use Rattle.corners.specs.declared.section.Kept.{Kept}
 use Rattle.corners.specs.CornerPoints.{pointAt}
 use Rattle.corners.specs.Section.{pointColumns}
 use Rattle.corners.specs.Inner.{cornerOf, keptAt}
 use Rattle.corners.proofs.Call.{element-sound}
-use Rattle.corners.proofs.Positions.{each-inside}
 use Rattle.corners.proofs.Parents.{parent-inside}
 use Rattle.corners.proofs.Filling.{Equal, equal, Underway, underway-none, stays, underway-next, underway-all}
 use Rattle.corners.proofs.section.fill.Statement.{statement}

@@ -1,5 +1,5 @@
--- The positions of a section, tested one after the other; and all at once by their bits together, which no position passes. Assumes nothing.
-use mathlib.Core.Path.{_≡_, ap, _∙_, sym, subst⁻¹}
+-- Positions of one level, tested one after the other; and all at once by their bits together, which no position passes. Assumes nothing.
+use mathlib.Core.Path.{_≡_, refl, ap, _∙_, sym, subst⁻¹}
 use mathlib.Core.List.{List}
 use Prim.Native.Nat.{ℕ, _+_, _^_, _≤_, _<_}
 use native.Mathlib.Nat.{le-trans}
@@ -8,11 +8,13 @@ use native.Mathlib.Omega.{arith}
 use lib.Bits.{bitOr, bitAnd, or-add-and, and-le-l, and-le-r}
 use lib.Dec.{leb}
 use lib.ListN.{length, getD, drop}
-use borrow.Author.Tests.{lt-leb, le-leb, leb-false}
+use borrow.Author.Tests.{lt-ltb, le-ltb, lt-leb, le-leb, leb-false}
 use Rattle.paper.specs.Outcome.{Outcome, refused, passed, checks, scan}
+use Rattle.paper.specs.declared.Fault.{Fault}
+use Rattle.paper.specs.Readings.{Finds}
 use Rattle.paper.proofs.Tests.{no-fault}
 use Rattle.paper.proofs.Scan.{scan-sound, scan-each, entry-found, entry-next}
-use Rattle.corners.specs.Section.{positionFault}
+use Rattle.positions.specs.Positions.{positionFault, checkPositions}
 
 -- ---- one position
 module _ (l : ℕ) (ps : List ℕ) where
@@ -32,6 +34,24 @@ module _ (l : ℕ) (ps : List ℕ) where
   pub each-inside : checks (positionFault l) ps ≡ passed → (j : ℕ) → j < length ps → getD ps j 0 < 8 ^ l
   each-inside sound j inside =
       leb-false (8 ^ l) (getD ps j 0) (no-fault (leb (8 ^ l) (getD ps j 0)) 4 0 (scan-each (positionFault l) 0 ps 0 j sound inside) .0)
+
+-- ---- the ways out of the check
+abbrev fault : ℕ → ℕ → Fault
+fault number place = record { number = number; place = place }
+
+module _ (l : ℕ) (ps : List ℕ) where
+  pub too-deep : 21 < l → Finds (fault 1 0) (checkPositions l ps)
+  too-deep deep = record { stands = sym (simp (lt-ltb 21 l deep)); unplaced = λ none. refl }
+
+  module _ (shallow : l ≤ 21) where
+    positions-only : checkPositions l ps ≡ checks (positionFault l) ps
+    positions-only = simp (le-ltb 21 l shallow)
+
+    pub none-beyond : ((j : ℕ) → j < length ps → getD ps j 0 < 8 ^ l) → Finds (fault 0 0) (checkPositions l ps)
+    none-beyond below = record { stands = sym (positions-only ∙ all-inside l ps below); unplaced = λ none. refl }
+
+    pub found-beyond : (f : Fault) → Finds f (checks (positionFault l) ps) → Finds f (checkPositions l ps)
+    found-beyond f found = record { stands = found .stands ∙ sym positions-only; unplaced = found .unplaced }
 
 -- ---- their bits together
 or-over-l : (a b : ℕ) → a ≤ bitOr a b

@@ -2,9 +2,9 @@
 use Prim.Native.Nat.{ℕ, _-_, _≤_, _<_}
 use native.Mathlib.Omega.{arith}
 use lib.ListN.{length, getD}
-use Rattle.corners.proofs.Positions.{merged-next}
-use Rattle.corners.proofs.section.merged.Statement.{statement}
-use Rattle.corners.proofs.section.merged.Tie as tie
+use Rattle.positions.proofs.Checking.{merged-next}
+use Rattle.positions.proofs.merged.Statement.{statement}
+use Rattle.positions.proofs.merged.Tie as tie
 
 abbrev Inv-loop : tie.InvT-loop
 Inv-loop positions bits₀ i₀ bits i = (i ≤ length positions) × ((j : ℕ) → j < i → getD positions j 0 ≤ bits)

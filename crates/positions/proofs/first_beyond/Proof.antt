@@ -6,10 +6,10 @@ use native.Mathlib.Omega.{arith}
 use lib.ListN.{length, drop, getD, drop-of-length-le}
 use Rattle.paper.specs.Outcome.{passed, checks, scan}
 use Rattle.tree.proofs.Digits.{shifted-power}
-use Rattle.corners.specs.Section.{positionFault}
-use Rattle.corners.proofs.Positions.{position-found, position-next}
-use Rattle.corners.proofs.section.first_beyond.Statement.{statement}
-use Rattle.corners.proofs.section.first_beyond.Tie as tie
+use Rattle.positions.specs.Positions.{positionFault}
+use Rattle.positions.proofs.Checking.{position-found, position-next}
+use Rattle.positions.proofs.first_beyond.Statement.{statement}
+use Rattle.positions.proofs.first_beyond.Tie as tie
 
 abbrev Inv-loop : tie.InvT-loop
 Inv-loop level positions i₀ i = (i ≤ length positions) × (checks (positionFault level) positions ≡ scan (positionFault level) i (drop i positions) passed)
@@ -40,7 +40,10 @@ returns c =
     let at-loop = c .before .before .before in
     let a = at-loop .before .args in
     let beyond : 8 ^ a .level ≤ getD (a .positions .now) (at-loop .loop .i) 0 = rw (shifted-power 3 (a .level) (omega arith)) at (c .if1 .taken) in
-    sym (at-loop .loop .inv .1 ∙ position-found (a .level) (a .positions .now) passed (at-loop .loop .i) (c .before .before .loop-test .taken) beyond)
+    record {
+      stands = sym (at-loop .loop .inv .1 ∙ position-found (a .level) (a .positions .now) passed (at-loop .loop .i) (c .before .before .loop-test .taken) beyond);
+      unplaced = λ none. absurd (omega arith);
+    }
 
 add-i : tie.Need-add-i Inv-loop μ-loop
 add-i c = omega arith
@@ -57,8 +60,11 @@ loop-again c =
 
 returns-2 : tie.Need-returns-2 Inv-loop μ-loop
 returns-2 c =
-    let ps = c .before .before .args .positions .now in
-    sym ((c .before .loop .inv .1) ∙ ap (λ (xs : List ℕ). scan (positionFault (c .before .before .args .level)) (c .before .loop .i) xs passed) (drop-of-length-le ps (c .loop-test .left)))
+    let a = c .before .before .args in
+    record {
+      stands = sym (c .before .loop .inv .1 ∙ ap (λ (xs : List ℕ). scan (positionFault (a .level)) (c .before .loop .i) xs passed) (drop-of-length-le (a .positions .now) (c .loop-test .left)));
+      unplaced = λ none. refl;
+    }
 
 pub first-beyond-spec : {M : Type 1} → statement M
 first-beyond-spec =
