@@ -1,4 +1,4 @@
-/* From an element to its child, back to a number, across a face, and two refusals. */
+/* From an element to its child, back to a number, across a face, to its corners in space, and refusals. */
 #include <inttypes.h>
 #include <stdio.h>
 
@@ -20,6 +20,17 @@ static void print_number(const char *name, gw_number_result a)
         printf("%s: refused %u place %" PRIu64 "\n", name, GW_REFUSAL_NUMBER(a.refusal), GW_REFUSAL_PLACE(a.refusal));
     else
         printf("%s: %" PRIu64 "\n", name, a.value);
+}
+
+/* Corner 1 of four elements of level 1. */
+static void print_section(const uint64_t position[4], gw_root root)
+{
+    double x[4], y[4], z[4];
+    uint64_t refusal = gw_corner_points(1, position, 4, 1, root, x, 4, y, 4, z, 4);
+    if (refusal != 0)
+        printf("section: refused %u place %" PRIu64 "\n", GW_REFUSAL_NUMBER(refusal), GW_REFUSAL_PLACE(refusal));
+    for (int i = 0; refusal == 0 && i < 4; i++)
+        printf("corner 1 of element %" PRIu64 ": %g %g %g\n", position[i], x[i], y[i], z[i]);
 }
 
 int main(void)
@@ -51,6 +62,9 @@ int main(void)
     gw_root root = {{{0, 0, 0}, {100, 0, 0}, {100, 100, 0}, {0, 0, 40}, {100, 0, 40}, {100, 100, 40}}};
     gw_point_result point = gw_corner_point(1, 6, 1, root);
     printf("corner 1 of element 6: %g %g %g\n", point.value.x, point.value.y, point.value.z);
+    /* The same corner of all four elements on top, in one call; then with a position that level 1 does not have. */
+    print_section((uint64_t[]){4, 5, 6, 7}, root);
+    print_section((uint64_t[]){4, 5, 8, 7}, root);
     root.corner[5].z = 513;
     printf("beyond 512: refused %u\n", GW_REFUSAL_NUMBER(gw_corner_point(1, 6, 1, root).refusal));
     return 0;

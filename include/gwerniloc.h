@@ -10,13 +10,14 @@
  * and 16 KB of stack are enough.
  *
  * Columns. A column is a pointer and a length. The pointer must not be NULL, also where the length is 0, and that many entries
- * must stand there; unequal columns of one list are refused, 11. A const column is only read; any other is written at its
- * front by an accepted call, and a refused call leaves it as it was. A column that is written must overlap no other column of
- * the call.
+ * must stand there; unequal columns of one list, or of one section, are refused, 11. A const column is only read; any other
+ * is written at its front by an accepted call (the three of a section, which are as long as the positions, to their end), and
+ * a refused call leaves it as it was. A column that is written must overlap no other column of the call.
  *
  * Answers. An answer has refusal 0 and the value, or a refusal and a value of zeros. A refusal is place * 256 + number; the
  * numbers are those of gw_refusal_number. The place is 0, except that
  *   - compare and family give the index of the element at fault (modulo 2^56),
+ *   - corner points for a section give with 5 the index of the first bad position (modulo 2^56),
  *   - a list call gives the number of the leaf with 1, 5, 7, 12, 13 and 16, and with 12 of a list that ends early its
  *     length (a uniform start has no leaf yet: its 1 has place 0),
  *   - 14 gives the entries or bytes needed,
@@ -49,8 +50,8 @@ enum gw_refusal_number {
     GW_NUMBER_TOO_LARGE = 8,     /* child, face or corner number too large */
     GW_NO_SUCCESSOR = 9,         /* successor of the last */
     GW_NO_NEIGHBOUR = 10,        /* neighbour outside the root */
-    GW_BAD_COLUMNS = 11,         /* columns of one list unequal; input list empty or over GW_MOST_LEAVES; marks or
-                                    weights of another length */
+    GW_BAD_COLUMNS = 11,         /* columns of one list or section unequal; input list empty or over GW_MOST_LEAVES;
+                                    marks or weights of another length */
     GW_NOT_COVERED = 12,         /* list doesn't cover its roots, leaf after leaf */
     GW_BAD_MARK = 13,            /* mark above 2 */
     GW_NO_ROOM = 14,             /* no room: place = entries or bytes needed */
@@ -292,6 +293,14 @@ typedef struct gw_point_result {
  *  Flat and folded roots are accepted.
  *  Refuses: 1 level above 21; 5 position not below 8^level; 8 corner above 5; 24 a root's corner outside -512 to 512. */
 gw_point_result gw_corner_point(uint8_t level, uint64_t position, uint8_t corner, gw_root root);
+
+/** Corner points for a whole section: the points of one corner, 0 to 5, at the given positions of one level, in a root with
+ *  the given corners. Entry i of columns x, y and z is bit for bit the point of gw_corner_point at position i. Any number of
+ *  positions will do, also none. Returns the refusal alone: 11 the four columns are not all of one length; 1 level above 21;
+ *  5 a position not below 8^level (place = index of the first); 8 corner above 5; 24 a root's corner outside -512 to 512.
+ *  Every other place is 0. */
+uint64_t gw_corner_points(uint8_t level, const uint64_t *position, size_t position_length, uint8_t corner, gw_root root,
+                          double *x, size_t x_length, double *y, size_t y_length, double *z, size_t z_length);
 
 /* ---- leaf lists: columns root, level, position, each a pointer and a length */
 

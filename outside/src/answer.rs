@@ -3,8 +3,8 @@
 use std::fmt;
 
 /// Why a call was refused: a number of the table in `gwerniloc.h`, and a place. The place is 0, except that
-/// `compare` and `family` give the index of the element at fault, the list calls that of the leaf, reading a file the
-/// offset of the number, and refusal 14 how many entries or bytes are needed.
+/// `compare` and `family` give the index of the element at fault, a section that of the position, the list calls that
+/// of the leaf, reading a file the offset of the number, and refusal 14 how many entries or bytes are needed.
 #[derive(Clone, Copy, Debug, PartialEq, Eq, Hash)]
 pub struct Refusal {
     /// The number, 1 to 24.

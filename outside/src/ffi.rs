@@ -57,6 +57,19 @@ extern "C" {
     ) -> Answer<u64>;
 
     pub fn gw_corner_point(level: u8, position: u64, corner: u8, root: Root) -> Answer<Point>;
+    pub fn gw_corner_points(
+        level: u8,
+        position: *const u64,
+        positions: usize,
+        corner: u8,
+        root: Root,
+        x: *mut f64,
+        x_length: usize,
+        y: *mut f64,
+        y_length: usize,
+        z: *mut f64,
+        z_length: usize,
+    ) -> u64;
 
     pub fn gw_list_check(
         k: u16,

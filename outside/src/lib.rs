@@ -6,8 +6,8 @@
 //! 2 anchor 2^21 or more or no multiple of the side, 3 type above 1, 4 outside the root. A line has only 1 and 2.
 //!
 //! [`plain`] has the same calls once more, unproved. It is the second opinion of the tests and the yardstick of the
-//! benchmark; programs use the methods of the three types, [`corner_point`], [`check_list`], [`uniform`], [`adapt`],
-//! [`balanced`], [`shares`], [`write_file`] and [`read_file`].
+//! benchmark; programs use the methods of the three types, [`corner_point`], [`corner_points`], [`check_list`],
+//! [`uniform`], [`adapt`], [`balanced`], [`shares`], [`write_file`] and [`read_file`].
 
 #![warn(missing_docs)]
 
@@ -25,7 +25,7 @@ pub use answer::{Answer, Refusal};
 pub use files::{read_file, write_file, Size};
 pub use lists::{adapt, balanced, check_list, shares, uniform};
 pub use orders::{order, LONGEST_OUTPUT};
-pub use points::{corner_point, Corner, Point, Root};
+pub use points::{corner_point, corner_points, Corner, Point, Root};
 
 /// The highest level of all three shapes.
 pub const HIGHEST_LEVEL: u8 = 21;

@@ -1,4 +1,4 @@
-//! Corner points: where a corner of an element lies in space.
+//! Corner points: where a corner of an element lies in space, and the same corner of many elements.
 
 use crate::{ffi, Refusal};
 
@@ -43,4 +43,37 @@ pub struct Point {
 pub fn corner_point(level: u8, position: u64, corner: u8, root: Root) -> Result<Point, Refusal> {
     // Safe as the calls of the elements are: any values, and no pointer.
     unsafe { ffi::gw_corner_point(level, position, corner, root) }.result()
+}
+
+/// Corner points for a whole section: the points of one corner, 0 to 5, at the given positions of one level, in a root
+/// with the given corners. Entry i of the three columns is bit for bit the point of [`corner_point`] at position i. Any
+/// number of positions will do, also none.
+///
+/// Refuses: 11 columns not all of one length; 1 level above 21; 5 a position not below 8^level, place = index of the
+/// first; 8 corner too large; 24 a root's corner outside -512 to 512. A refused call writes nothing.
+pub fn corner_points(
+    level: u8,
+    positions: &[u64],
+    corner: u8,
+    root: Root,
+    x: &mut [f64],
+    y: &mut [f64],
+    z: &mut [f64],
+) -> Result<(), Refusal> {
+    // Safe as the list calls are: any values, each column read or written within its length, and no pointer kept.
+    Refusal::from_c(unsafe {
+        ffi::gw_corner_points(
+            level,
+            positions.as_ptr(),
+            positions.len(),
+            corner,
+            root,
+            x.as_mut_ptr(),
+            x.len(),
+            y.as_mut_ptr(),
+            y.len(),
+            z.as_mut_ptr(),
+            z.len(),
+        )
+    })
 }

@@ -1,7 +1,9 @@
 //! Whole answers of C, with what the safe calls drop; and lengths that belong to one column each.
 
 use super::*;
-use crate::{plain, Corner};
+use crate::plain;
+
+mod points;
 
 const LEVELS: [u8; 7] = [0, 1, 2, 20, 21, 22, 255];
 const COORDINATES: [u32; 6] = [0, 1, 1 << 20, (1 << 21) - 1, 1 << 21, u32::MAX];
@@ -104,28 +106,6 @@ fn families() {
     assert_eq!(family(0, 0), Answer { refusal: 0, value: 0 });
     assert_eq!(family(1, 0), Answer { refusal: 11, value: 0 });
     assert_eq!(family(1, 1), Answer { refusal: 1, value: 0 });
-}
-
-/// A refused point has zeros of plus sign for its value; the corners go over in their order.
-#[test]
-fn points() {
-    let mut root = Root::default();
-    let point = |level, position, corner, root| {
-        let answer: Answer<Point> = unsafe { gw_corner_point(level, position, corner, root) };
-        (answer.refusal, [answer.value.x, answer.value.y, answer.value.z].map(f64::to_bits))
-    };
-    for (i, v) in root.corners.iter_mut().enumerate() {
-        *v = Corner { x: i as i64, y: -(i as i64), z: 100 + i as i64 };
-    }
-    for i in 0..6 {
-        let own = [i as f64, 0.0 - i as f64, 100.0 + i as f64].map(f64::to_bits);
-        assert_eq!(point(0, 0, i, root), (0, own));
-    }
-    assert_eq!(point(22, 0, 0, root), (1, [0; 3]));
-    assert_eq!(point(1, 8, 0, root), (5, [0; 3]));
-    assert_eq!(point(1, 7, 6, root), (8, [0; 3]));
-    root.corners[5].z = -513;
-    assert_eq!(point(1, 7, 5, root), (24, [0; 3]));
 }
 
 /// A refusal of a list in one word, and lengths that are taken from their own column.

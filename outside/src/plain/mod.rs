@@ -12,6 +12,7 @@ pub mod line;
 pub mod list;
 pub mod point;
 pub mod prism;
+pub mod section;
 pub mod shares;
 pub mod triangle;
 

@@ -9,8 +9,9 @@ const SHRINK: f64 = 1.0 / (1u64 << 42) as f64;
 /// In sides from the anchor, by type and corner of the triangle.
 static STEP: [[(u32, u32); 3]; 2] = [[(0, 0), (1, 0), (1, 1)], [(0, 0), (0, 1), (1, 1)]];
 
+/// Whether a corner of a root is refused.
 #[inline(always)]
-fn far(corner: &Corner) -> bool {
+pub(super) fn far(corner: &Corner) -> bool {
     // Unsigned, one comparison tells both ends.
     [corner.x, corner.y, corner.z].into_iter().any(|v| v.wrapping_add(512) as u64 > 1_024)
 }

@@ -17,14 +17,27 @@ pub fn foreign(i: usize) -> u64 {
     (mix ^ mix >> 32) | 1 << 63 | 1 << 31 | 1 << 15 | 1 << 7
 }
 
+/// Bits of f64 that no point has: -0, not a number of many kinds, infinity, a number far too large.
+pub fn strange(i: usize) -> u64 {
+    let digits = foreign(i) & ((1 << 52) - 1);
+    match i % 4 {
+        0 => 1 << 63,
+        1 => 0x7ff << 52 | digits,
+        2 => 0xfff << 52,
+        _ => 0x7fe << 52 | digits,
+    }
+}
+
 /// The filling that the sample asks for.
 pub fn sampled(i: usize) -> u64 {
     (7 * i as u64 + 3) % 251
 }
 
-/// An entry of a column.
-pub trait Entry: Copy + Debug + PartialEq {
+/// An entry of a column. Two are the same if their bits are, for f64 has a -0 that equals 0 and values that don't equal
+/// themselves.
+pub trait Entry: Copy + Debug {
     fn cut(word: u64) -> Self;
+    fn bits(self) -> u64;
 }
 
 macro_rules! entries {
@@ -32,10 +45,32 @@ macro_rules! entries {
         fn cut(word: u64) -> Self {
             word as $T
         }
+        fn bits(self) -> u64 {
+            self as u64
+        }
     })+ };
 }
 
 entries!(u8, u16, u32, u64);
+
+impl Entry for f64 {
+    /// A small number as that number, which is what the sample asks for; any other word as bits.
+    fn cut(word: u64) -> Self {
+        if word < 1 << 32 {
+            word as f64
+        } else {
+            f64::from_bits(word)
+        }
+    }
+    fn bits(self) -> u64 {
+        self.to_bits()
+    }
+}
+
+/// Whether the entries are the same, bit for bit.
+fn same<T: Entry>(one: &[T], other: impl Iterator<Item = T>) -> bool {
+    one.iter().copied().map(T::bits).eq(other.map(T::bits))
+}
 
 pub struct Lent<T>(Vec<T>);
 
@@ -65,22 +100,23 @@ impl<T: Entry> Lent<T> {
     fn after(&self) -> &[T] {
         // Hidden from the compiler, which might take it that a slice lent to be read never changes.
         let all = black_box(&self.0);
-        assert!(all.iter().copied().take(GUARD).eq(guard()), "written in front of a column");
-        assert!(all.iter().copied().skip(all.len() - GUARD).eq(guard()), "written behind a column");
-        &all[GUARD..all.len() - GUARD]
+        let end = all.len() - GUARD;
+        assert!(same(&all[..GUARD], guard()), "written in front of a column");
+        assert!(same(&all[end..], guard()), "written behind a column");
+        &all[GUARD..end]
     }
 
     /// The column still holds these entries.
     pub fn holds(&self, entries: &[T]) {
-        assert!(self.after() == entries, "a column lent to be read has changed");
+        assert!(same(self.after(), entries.iter().copied()), "a column lent to be read has changed");
     }
 
     /// So many entries at the front, which the call has written; all after them are still as they were filled.
     pub fn front(&self, count: usize, filling: Filling) -> Vec<T> {
         let after = self.after();
         assert!(count <= after.len(), "{count} entries have no room");
-        let kept = (count..after.len()).all(|i| after[i] == T::cut(filling(i)));
-        assert!(kept, "written behind the result, or by a refused call");
+        let kept = (count..after.len()).map(|i| T::cut(filling(i)));
+        assert!(same(&after[count..], kept), "written behind the result, or by a refused call");
         after[..count].to_vec()
     }
 }

@@ -16,8 +16,10 @@ pub mod leaves;
 pub mod lent;
 pub mod marks;
 pub mod naive;
+pub mod points;
 pub mod random;
 pub mod sample;
+pub mod section;
 pub mod tally;
 
 /// The answers of the proved library and of the plain code, in this order.

@@ -6,7 +6,8 @@ use gwerniloc::{Refusal, HIGHEST_LEVEL, MOST_LEAVES, MOST_ROOTS};
 use super::calls::{Adaption, Sharing};
 use super::leaves::{self, children, positions, Leaf, Leaves};
 
-fn refuse<T>(number: u8, place: usize) -> Result<T, Refusal> {
+/// The refusal with a number, at a place.
+pub fn refuse<T>(number: u8, place: usize) -> Result<T, Refusal> {
     Err(Refusal { number, place: place as u64 })
 }
 

@@ -1,8 +1,8 @@
-//! The outside sample, made by a model in another language: `data/base.txt` has one call a line.
+//! The outside sample, made by a model in another language: `data/base.txt` and `data/requests.txt` have a call a line.
 
 use std::str::{FromStr, SplitWhitespace};
 
-use gwerniloc::Refusal;
+use gwerniloc::{Corner, Refusal, Root};
 
 use super::leaves::Leaves;
 
@@ -21,6 +21,15 @@ impl Fields<'_> {
     /// The lengths of the three columns of a list.
     pub fn lengths(&mut self) -> Result<[usize; 3], Skip> {
         Ok([self.next()?, self.next()?, self.next()?])
+    }
+
+    /// The eighteen numbers of a root, corner by corner.
+    pub fn root(&mut self) -> Result<Root, Skip> {
+        let mut root = Root::default();
+        for v in &mut root.corners {
+            *v = Corner { x: self.next()?, y: self.next()?, z: self.next()? };
+        }
+        Ok(root)
     }
 
     /// The lengths of the three columns, the number of segments, the segments as root, level, position, count: so many
@@ -100,10 +109,15 @@ pub fn words<T>(answer: &Result<T, Refusal>, value: impl Fn(&T) -> Vec<i128>) ->
 /// the test has no such call.
 pub type Lines = Result<Option<Vec<String>>, Skip>;
 
-/// Puts the lines of the sample that `call` knows. Says how many ran and how many a parameter's type cannot hold.
+/// Puts the lines of base.txt that `call` knows. Says how many ran and how many a parameter's type cannot hold.
 pub fn run(kind: &str, call: impl Fn(&str, &mut Fields) -> Lines) -> [usize; 2] {
-    let path = concat!(env!("CARGO_MANIFEST_DIR"), "/data/base.txt");
-    let text = std::fs::read_to_string(path).expect("data/base.txt");
+    run_file("base.txt", kind, call)
+}
+
+/// The same of a file of the sample.
+pub fn run_file(file: &str, kind: &str, call: impl Fn(&str, &mut Fields) -> Lines) -> [usize; 2] {
+    let path = format!("{}/data/{file}", env!("CARGO_MANIFEST_DIR"));
+    let text = std::fs::read_to_string(&path).expect(&path);
     let [mut ran, mut skipped] = [0; 2];
     let mut faults = Vec::new();
     for (number, line) in text.lines().enumerate() {

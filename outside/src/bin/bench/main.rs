@@ -1,11 +1,12 @@
-//! Nanoseconds a call, and for lists a leaf, proved and plain, in one run: `cargo run --release --bin bench`. Not a
-//! test: nothing can fail.
+//! Nanoseconds a call, for lists a leaf and for sections a point, proved and plain, in one run:
+//! `cargo run --release --bin bench`. Not a test: nothing can fail.
 //!
 //! Both sides are called the same way, by value or with lent columns, and never inlined.
 
 mod elements;
 mod lists;
 mod points;
+mod section;
 
 /// The generator splitmix64.
 struct Random(u64);
@@ -26,4 +27,6 @@ fn main() {
     points::rows(&mut random);
     println!();
     lists::rows(&mut random);
+    println!();
+    section::rows(&mut random);
 }

@@ -20,7 +20,7 @@ impl Fold for Point {
 }
 
 /// Six corners with numbers from -512 to 512.
-fn root(random: &mut Random) -> Root {
+pub fn root(random: &mut Random) -> Root {
     let mut number = || (random.next() % 1_025) as i64 - 512;
     Root { corners: std::array::from_fn(|_| Corner { x: number(), y: number(), z: number() }) }
 }

@@ -1,0 +1,79 @@
+//! Corner points for a section, asked of the proved library, of the plain code and of the ticket, in this order.
+//!
+//! The lent columns are compared before and after: the positions stay, and the other three are written by an accepted
+//! call alone.
+
+use gwerniloc::{corner_points, plain, Refusal, Root, HIGHEST_LEVEL};
+
+use super::calls::Answers;
+use super::lent::{Entry, Filling, Lent};
+use super::naive::refuse;
+use super::points::exact;
+
+/// What is asked of a section; `room` has the lengths of the columns lent for the points.
+#[derive(Clone, Debug)]
+pub struct Section {
+    pub level: u8,
+    pub positions: Vec<u64>,
+    pub corner: u8,
+    pub root: Root,
+    pub room: [usize; 3],
+}
+
+/// The three columns, as bits.
+pub type Points = [Vec<u64>; 3];
+
+impl Section {
+    /// With columns of the positions' length.
+    pub fn new(level: u8, positions: Vec<u64>, corner: u8, root: Root) -> Self {
+        let room = [positions.len(); 3];
+        Section { level, positions, corner, root, room }
+    }
+
+    pub fn ask(&self, filling: Filling) -> Answers<Points> {
+        [self.points(true, filling), self.points(false, filling), self.naive()]
+    }
+
+    fn points(&self, proved: bool, filling: Filling) -> Result<Points, Refusal> {
+        let lent = Lent::holding(&self.positions);
+        let [mut x, mut y, mut z] = self.room.map(|length| Lent::<f64>::filled(length, filling));
+        let (level, positions, corner, root) = (self.level, lent.read(), self.corner, self.root);
+        let answer = if proved {
+            corner_points(level, positions, corner, root, x.write(), y.write(), z.write())
+        } else {
+            let (x, y, z) = (x.write(), y.write(), z.write());
+            Refusal::from_c(plain::section::corner_points(level, positions, corner, root, x, y, z))
+        };
+        lent.holds(&self.positions);
+        let count = answer.map_or(0, |()| self.positions.len());
+        let written = [x, y, z].map(|column| column.front(count, filling).into_iter().map(f64::bits).collect());
+        answer.map(|()| written)
+    }
+
+    /// The ticket, sentence by sentence: "Refusals: 11, 1, 5, 8, 24."
+    fn naive(&self) -> Result<Points, Refusal> {
+        let Section { level, positions, corner, root, room } = self;
+        // "columns of different lengths are refused first"
+        if room.iter().any(|&length| length != positions.len()) {
+            return refuse(11, 0);
+        }
+        if *level > HIGHEST_LEVEL {
+            return refuse(1, 0);
+        }
+        // "Every position is checked before the corner number", "the place of a 5 is the first bad index"
+        let limit = 8u128.pow(*level as u32);
+        if let Some(i) = (0..positions.len()).find(|&i| positions[i] as u128 >= limit) {
+            return refuse(5, i);
+        }
+        if *corner > 5 {
+            return refuse(8, 0);
+        }
+        let numbers = root.corners.iter().flat_map(|v| [v.x, v.y, v.z]);
+        if numbers.into_iter().any(|v| !(-512..=512).contains(&v)) {
+            return refuse(24, 0);
+        }
+        // "The result equals the single calls one by one."
+        let points: Vec<[u64; 3]> = positions.iter().map(|&p| exact(*level, p, *corner, *root)).collect();
+        Ok([0, 1, 2].map(|i| points.iter().map(|point| point[i]).collect()))
+    }
+}
