@@ -4,7 +4,6 @@ use mathlib.Core.Bool.{true}
 use mathlib.Core.List.{List, [], _∷_, map}
 use Prim.Native.Nat.{ℕ, _+_, _-_, _≤_, _<_}
 use native.Mathlib.Omega.{arith}
-use lib.Dec.{eqb}
 use lib.ListN.{length, getD, set}
 use lib.Ieee.{Float}
 use borrow.Author.Tests.{eqb-true}
@@ -19,15 +18,11 @@ use Rattle.corners.specs.declared.Point.{Point}
 use Rattle.corners.specs.declared.section.Kept.{Kept}
 use Rattle.corners.specs.CornerPoints.{pointAt}
 use Rattle.corners.specs.Section.{PointColumns, pointColumns, equalLengths, points, filled}
+use Rattle.corners.specs.SectionLaws.{Equal}
 use Rattle.corners.specs.Inner.{keptAt}
 use Rattle.corners.proofs.Conjunctions.{parts}
 
 -- ---- equal lengths
-pub record Equal (ps : List ℕ) (m : PointColumns) : Type 0 where
-  pub in-xs : length (m .xs) ≡ length ps
-  pub in-ys : length (m .ys) ≡ length ps
-  pub in-zs : length (m .zs) ≡ length ps
-
 pub equal : (ps : List ℕ) (m : PointColumns) → equalLengths ps m ≡ true → Equal ps m
 equal ps m h =
     let rest = parts _ _ h in

@@ -7,9 +7,11 @@ pub mod Roots
 pub mod LocalCorners
 pub mod Call
 pub mod RootCorners
-pub mod Promised
-pub mod Controls
 pub mod Children
 pub mod Parents
 pub mod Filling
 pub mod SectionCall
+pub mod SectionAccepted
+pub mod SectionRefused
+pub mod Promised
+pub mod Controls

@@ -24,6 +24,8 @@ use Rattle.corners.proofs.Offsets.{axis-bound}
 use Rattle.corners.proofs.Roots.{near-xs, near-ys, near-zs}
 use Rattle.corners.proofs.Call.{point-accepted, point-refused-24}
 use Rattle.corners.proofs.RootCorners.{at-0, at-1, at-2, at-3, at-4, at-5, whole}
+use Rattle.corners.proofs.SectionAccepted.{accepts-there, accepts-back, drawn}
+use Rattle.corners.proofs.SectionRefused.{place-there, place-back, as-single}
 use Rattle.corners.proofs.Exact as values
 
 accepted-same : {A : Type 0} (a b : A) → _≡_ {A = Outcome A} (accepted a) (accepted b) → a ≡ b
@@ -134,6 +136,13 @@ promised =
     record {
       accepts = λ l p i r a b c near. point-accepted l p i r a b c near;
       answered = λ l p i r a. (answers l p i r a, λ h. only-due l p i r a (h .shallow) (h .inside) (h .numbered) (h .near) (h .as-due));
+      section =
+          record {
+            accepts = λ l ps i r m found. (accepts-there l ps i r m found, accepts-back l ps i r m found);
+            place = λ l ps i r m k. (place-there l ps i r m k, λ h. place-back l ps i r m (h .0) k (h .1 .0) (h .1 .1));
+            as-single = λ l ps i r m number k long some. as-single l ps i r m long number k some;
+            left = drawn;
+          };
       exact = exact;
       bounded = record { small = small };
       meaning = record { root's-own = own; shared = shared };

@@ -1,5 +1,5 @@
 -- The ways out of the call over a column of positions, one law a case, in the ticket's order, each from the tests that led there. Assumes nothing.
-use mathlib.Core.Path.{_≡_, refl, ap, _∙_, sym}
+use mathlib.Core.Path.{_≡_, refl, _∙_, sym}
 use mathlib.Core.Bool.{true, false, not}
 use mathlib.Core.List.{List}
 use Prim.Native.Nat.{ℕ, _≤_, _<_}
@@ -35,10 +35,10 @@ module _ (l : ℕ) (ps : List ℕ) (i : ℕ) (r : Root) (m : PointColumns) where
 
   module _ (equal : equalLengths ps m ≡ true) where
     -- the tests that follow, once columns and positions have passed
-    abbrev later : Outcome (List Point)
+    abbrev pub later : Outcome (List Point)
     later = refuse-when (leb 6 i) 8 (refuse-when (not (rootWithin r)) 24 (accepted (points l ps i r)))
 
-    onward : cornerPoints l ps i r m ≡ refuse-when (ltb 21 l) 1 (scan (positionFault l) 0 ps later)
+    pub onward : cornerPoints l ps i r m ≡ refuse-when (ltb 21 l) 1 (scan (positionFault l) 0 ps later)
     unfolding cornerPoints
     onward = simp equal
 
@@ -58,7 +58,10 @@ module _ (l : ℕ) (ps : List ℕ) (i : ℕ) (r : Root) (m : PointColumns) where
       pub section-24 : i < 6 → rootWithin r ≡ false → SectionFilled l ps i r (Refused 24 0) m m
       section-24 small out = refusal 24 0 (last ∙ simp (lt-leb 6 i small, out))
 
+  -- where the tests pass, the points
+  pub section-accepted : Tested l ps i r m → cornerPoints l ps i r m ≡ accepted (points l ps i r)
+  section-accepted t = last (t .equal) (t .shallow) (t .inside) ∙ simp (lt-leb 6 i (t .numbered), t .near)
+
   pub section-done : Tested l ps i r m → (m′ : PointColumns) → m′ ≡ filled (points l ps i r) m → SectionFilled l ps i r Passed m m′
   section-done t m′ is =
-      accepts passOf (λ (found : List Point). tt) filled _ _ m (points l ps i r) m′
-      (last (t .equal) (t .shallow) (t .inside) ∙ simp (lt-leb 6 i (t .numbered), t .near)) refl is
+      accepts passOf (λ (found : List Point). tt) filled _ _ m (points l ps i r) m′ (section-accepted t) refl is

@@ -10,7 +10,7 @@
 --   Meaning          the corners of the root element are the root's own six; two corners with the same local (X, Y, Z) get the
 --                    same point, whatever their levels
 --   Answers          the level, position, corner number and root are in range, and the point a is as due
---   Promised         all of it; what is accepted: any root with numbers from -512 to 512, "flat or folded"; and the call accepts exactly in
+--   Promised         all of it, that of a whole section too (`SectionLaws.antt`); what is accepted: any root with numbers from -512 to 512, "flat or folded"; and the call accepts exactly in
 --                    these ranges, with the point that is due and no other
 --
 -- Assumes nothing.
@@ -31,6 +31,7 @@ use Rattle.corners.specs.declared.Corner.{Corner}
 use Rattle.corners.specs.declared.Root.{Root}
 use Rattle.corners.specs.declared.Point.{Point}
 use Rattle.corners.specs.CornerPoints.{corner, rootWithin, q, negative, coordinate, pointAt, cornerPoint}
+use Rattle.corners.specs.SectionLaws.{SectionLaws}
 
 -- HasValue x s a c: x is finite, has the sign s, and is a / c in size
 pub record IsQuotient (x : Float) (z : ℤ) : Type 0 where
@@ -81,6 +82,7 @@ pub record Promised : Type 0 where
   pub accepts : (l p i : ℕ) (r : Root) → l ≤ HIGHEST → p < CHILDREN ^ l → i < CORNERS → rootWithin r ≡ true
       → cornerPoint l p i r ≡ accepted (pointAt r (prisms.corner HIGHEST (elementAt prism l p) i))
   pub answered : (l p i : ℕ) (r : Root) (a : Point) → cornerPoint l p i r ≡ accepted a ↔ Answers l p i r a
+  pub section : SectionLaws
   pub exact : Exact
   pub bounded : Bounded
   pub meaning : Meaning

@@ -9,7 +9,7 @@
 --   filled found m       the columns m with the points found: "a refusal anywhere writes nothing", an accepted call fills all four lengths
 --   SectionFilled     the contract of the call: it answers nothing beyond the points that it writes
 --
--- Not here: the single call (`CornerPoints.antt`), that the two agree (`OneByOne` in `Laws.antt`). Assumes nothing.
+-- Not here: the single call (`CornerPoints.antt`), that the two agree (`SectionLaws.antt`). Assumes nothing.
 use mathlib.Core.Bool.{Bool, not, _&&_}
 use mathlib.Core.List.{List, map}
 use Prim.Native.Nat.{ℕ}

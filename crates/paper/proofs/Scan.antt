@@ -46,6 +46,12 @@ accepted-of false n p rest a h = (refl, h)
 pub accepted-by : (t : Bool) (n p : ℕ) (rest : Outcome (Unit {0})) → refuse-when-at t n p rest ≡ passed → (t ≡ false) × (rest ≡ passed)
 accepted-by t n p rest = accepted-of t n p rest tt
 
+-- a refusal by another number than the test's passed the test
+pub other-refused : {B : Type 0} (t : Bool) (n p : ℕ) (rest : Outcome B) (m q : ℕ) → (n ≡ m → ⊥) → refuse-when-at t n p rest ≡ refused m q
+    → (t ≡ false) × (rest ≡ refused m q)
+other-refused true n p rest m q other h = absurd (other cc)
+other-refused false n p rest m q other h = (refl, h)
+
 -- a scan that refuses does so whatever would follow
 pub carry : {B : Type 0} (t : Bool) (n p m q : ℕ) (short : Outcome (Unit {0})) (long : Outcome B) → (short ≡ refused m q → long ≡ refused m q)
     → refuse-when-at t n p short ≡ refused m q → refuse-when-at t n p long ≡ refused m q

@@ -19,7 +19,7 @@ use Rattle.corners.specs.Section.{pointColumns}
 use Rattle.corners.specs.Inner.{cornerOf, keptAt}
 use Rattle.corners.proofs.Call.{element-sound}
 use Rattle.corners.proofs.Parents.{parent-inside}
-use Rattle.corners.proofs.Filling.{Equal, equal, Underway, underway-none, stays, underway-next, underway-all}
+use Rattle.corners.proofs.Filling.{equal, Underway, underway-none, stays, underway-next, underway-all}
 use Rattle.corners.proofs.section.fill.Statement.{statement}
 use Rattle.corners.proofs.section.fill.Tie as tie
 
