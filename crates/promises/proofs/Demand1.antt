@@ -1,10 +1,12 @@
 -- Demand 1: each call's answer is one, its memory is what its outcome leaves, and its refusals are those of its tests. Assumes nothing.
 use mathlib.Core.Path.{_≡_, refl, _∙_, sym, ap, subst}
 use mathlib.Core.Bool.{not}
-use mathlib.Core.List.{List, [], _∷_}
+use mathlib.Core.List.{List, [], _∷_, List·Memᴰ}
 use Prim.Native.Nat.{ℕ, _+_, _*_, _^_}
+use native.Mathlib.Omega.{arith}
 use lib.Dec.{leb, ltb}
 use lib.ListN.{length}
+use Rattle.paper.specs.Outcome.{Outcome, scan}
 use Rattle.paper.specs.Memory.{written}
 use Rattle.paper.specs.Readings.{valueOf, truthOf, comparisonOf, passOf}
 use Rattle.paper.proofs.Faults.{finds-one}
@@ -20,8 +22,11 @@ use Rattle.sounding.specs.Answers.{headOf}
 use Rattle.sounding.proofs.Answers.{tells-one}
 use Rattle.reader.specs.Answers.{gridOf}
 use Rattle.reader.specs.Calls.{sizeOf}
+use Rattle.positions.specs.Positions.{positionFault, checkPositions}
 use Rattle.corners.specs.declared.Root.{Root}
+use Rattle.corners.specs.declared.Point.{Point}
 use Rattle.corners.specs.CornerPoints.{rootWithin, cornerPoint, pointOf}
+use Rattle.corners.specs.Section.{PointColumns, equalLengths, cornerPoints, filled}
 use Rattle.fields.specs.Fields.{isNumber}
 use Rattle.forms.specs.Forms.{formOf}
 use Rattle.forms.proofs.Refusals.{read-refused}
@@ -32,7 +37,7 @@ use Rattle.orders.proofs.Promised.{promised}
 use Rattle.forms.specs.Forms as forms
 use Rattle.promises.specs.Refusals.{Refuses}
 use Rattle.promises.specs.Demand1.{OnLists, OnParts, OfCalls}
-use Rattle.promises.proofs.Refusals.{when, fine, room-so, at0, at1, at2, at3}
+use Rattle.promises.proofs.Refusals.{no-fault, fault-so, in-turn, when, fine, room-so, at0, at1, at2, at3, at4}
 use Rattle.promises.proofs.Calls.{answer, lent}
 use Rattle.promises.proofs.Determined.{lines, triangles, prisms, numbers, truths, comparisons, passes, grids, found-numbers, points, heads, forms-read}
 use Rattle.promises.proofs.ElementCalls.{on-elements}
@@ -53,6 +58,15 @@ on-lists =
     }
 
 -- ---- the calls that those are made of
+-- positions in turn: 5, at an index
+positions-so : {A : Type 0} {ns : List ℕ} (l : ℕ) (ps : List ℕ) {o : Outcome A} → List·Memᴰ 5 ns → Refuses ns (length ps) o
+    → Refuses ns (length ps) (scan (positionFault l) 0 ps o)
+positions-so l ps known rest =
+    in-turn (positionFault l) 0 ps (λ p inside. fault-so (leb (8 ^ l) p) 5 0 known (no-fault _)) (omega arith) rest
+
+check-positions-so : (l : ℕ) (ps : List ℕ) → Refuses (1 ∷ 5 ∷ []) (length ps) (checkPositions l ps)
+check-positions-so l ps = when (ltb 21 l) 1 at0 (λ shallow. positions-so l ps at1 (fine tt))
+
 stretch-one : (root level position : ℕ) (m : Columns) (a b : ℕ) → a ≡ b → (i : ℕ)
     → stored i (stretch root level position a) m ≡ stored i (stretch root level position b) m
 stretch-one root level position m a b same i = ap (λ (k : ℕ). stored i (stretch root level position k) m) same
@@ -61,6 +75,12 @@ on-parts : OnParts
 on-parts =
     record {
       order = λ first level second other. answer comparisonOf comparisons (fine _);
+      check-positions = λ l ps.
+          record {
+            one = λ r s m m′ f g. (finds-one r s (checkPositions l ps) f g, refl);
+            spared = λ r m number place f h. refl;
+            refusals = λ r m f. subst (Refuses (1 ∷ 5 ∷ []) (length ps)) (sym (f .stands)) (check-positions-so l ps);
+          };
       check-marks = λ highest ls ms.
           record {
             one = λ r s m m′ f g. (finds-one r s (checkMarks highest ls ms) f g, refl);
@@ -87,6 +107,12 @@ unfolding cornerPoint
 points-so l p i r =
     when (ltb 21 l) 1 at0 (λ shallow. when (leb (8 ^ l) p) 5 at1 (λ inside. when (leb 6 i) 8 at2 (λ few. when (not (rootWithin r)) 24 at3 (λ near. fine _))))
 
+pub sections-so : (l : ℕ) (ps : List ℕ) (i : ℕ) (r : Root) (m : PointColumns) → Refuses (11 ∷ 1 ∷ 5 ∷ 8 ∷ 24 ∷ []) (length ps) (cornerPoints l ps i r m)
+unfolding cornerPoints
+sections-so l ps i r m =
+    when (not (equalLengths ps m)) 11 at0 (λ equal. when (ltb 21 l) 1 at1 (λ shallow.
+    positions-so l ps at2 (when (leb 6 i) 8 at3 (λ few. when (not (rootWithin r)) 24 at4 (λ near. fine _)))))
+
 forms-so : (input : List ℕ) → Refuses (1 ∷ 15 ∷ 17 ∷ 23 ∷ []) 8 (forms.read input)
 forms-so input =
     record {
@@ -105,6 +131,7 @@ of-calls =
       on-prisms = on-elements prism prismOf (1 ∷ 2 ∷ 3 ∷ 4 ∷ []) prisms prism-rows;
       on-lists = on-lists;
       on-points = λ l p i r. answer pointOf points (points-so l p i r);
+      on-sections = λ l ps i r m. lent passOf passes (λ (found : List Point). tt) filled (sections-so l ps i r m);
       on-orders = λ input m. lent valueOf numbers length written (orders-so input m);
       on-forms = λ input. answer formOf forms-read (forms-so input);
       field-from-1 = λ input number field e. read-refused input number field e .1 .0;

@@ -15,16 +15,20 @@ use Rattle.prism.specs.Elements.{prism}
 use Rattle.leaves.specs.Leaves.{front}
 use Rattle.format.specs.Reading.{Grid}
 use Rattle.reader.specs.Calls.{sizeOf}
+use Rattle.corners.specs.declared.Root.{Root}
+use Rattle.corners.specs.declared.Point.{Point}
+use Rattle.corners.specs.Section.{PointColumns, cornerPoints, filled}
+use Rattle.interface.specs.Calls.{PointsResult}
 use Rattle.results.specs.Results.{lineResult, triangleResult, prismResult, numberResult, truthResult, compareResult, passResult, gridResult, pointResult}
 use Rattle.results.specs.Laws.{Kind, lines, triangles, prisms, numbers, comparisons, words, grids, points}
 use Rattle.results.proofs.Laws.{Result, number-result, truth-result, compare-result, pass-result, grid-result, point-result, line-result, triangle-result, prism-result, shown-result, shown}
-use Rattle.promises.specs.OverC.{ElementsOverC, ListsOverC, OverC}
+use Rattle.promises.specs.OverC.{Flat, ElementsOverC, ListsOverC, OverC}
 use Rattle.promises.proofs.Flat.{said, flat, returns}
 use Rattle.promises.proofs.ElementCalls.{Rows}
 use Rattle.promises.proofs.ShapeCalls.{line-rows, triangle-rows, prism-rows}
 use Rattle.promises.proofs.ListCalls.{check-so, balanced-so, uniform-so, adapt-so, shares-so}
 use Rattle.promises.proofs.FileCalls.{read-so, write-so}
-use Rattle.promises.proofs.Demand1.{points-so, orders-so}
+use Rattle.promises.proofs.Demand1.{points-so, sections-so, orders-so}
 
 module _ {E R : Type 0} (S : Shape E) (faults : List ℕ) (kind : Kind R) (result : Outcome E → R) (is : Result kind result) where
   on-elements : said faults ≡ true → Rows S faults → ElementsOverC S kind result faults
@@ -60,6 +64,11 @@ lists-over-c =
       read = λ bytes m. flat grids _ (shown-result grids gridResult sizeOf grid-result) (λ (g : Grid). front (g .leaves)) refl (read-so bytes m);
     }
 
+pub sections-over-c : (l : ℕ) (ps : List ℕ) (i : ℕ) (r : Root) (m : PointColumns)
+    → Flat words (11 ∷ 1 ∷ 5 ∷ 8 ∷ 24 ∷ []) (length ps) (cornerPoints l ps i r m) m (λ a m′. PointsResult l ps i r a m m′)
+unfolding said
+sections-over-c l ps i r m = flat words _ (shown-result words passResult (λ (found : List Point). tt) pass-result) filled refl (sections-so l ps i r m)
+
 pub over-c : OverC
 unfolding said
 over-c =
@@ -69,6 +78,7 @@ over-c =
       on-prisms = on-elements prism (1 ∷ 2 ∷ 3 ∷ 4 ∷ []) prisms prismResult prism-result refl prism-rows;
       on-lists = lists-over-c;
       on-points = λ l p i r. returns points pointResult point-result refl (points-so l p i r);
+      on-sections = sections-over-c;
       on-orders = λ input m. flat numbers _ count-result written refl (orders-so input m);
       shown = shown;
       low = record { of-lists = omega arith; of-files = omega arith; of-orders = omega arith };

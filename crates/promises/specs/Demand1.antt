@@ -13,11 +13,11 @@
 --   filed                  no offset in a file up to its first fault, and no file's length, is larger: four bytes, K, R, and at most 1,048,576
 --                          runs of two numbers of three bytes
 --   OnLists                the calls on lists and files
---   OnParts                functions that only this house calls: order of `tree`, check of `marks`, number_at of `numbers`, head_at and sound of
---                          `sounding`, lay of `columns`, number of `fields`, print of `text`. The last is no call of the paper: it writes what
---                          has room, and answers how many bytes there are. Their words: `tree/specs/Words.antt`, `marks/specs/Marks.antt`,
---                          `numbers/specs/Numbers.antt`, `sounding/specs/Answers.antt`, `columns/specs/Laying.antt`, and `Inner.antt` of
---                          `fields` and `text`
+--   OnParts                functions that only this house calls: order of `tree`, check of `positions` and of `marks`, number_at of `numbers`,
+--                          head_at and sound of `sounding`, lay of `columns`, number of `fields`, print of `text`. The last is no call of the
+--                          paper: it writes what has room, and answers how many bytes there are. Their words: `tree/specs/Words.antt`,
+--                          `positions/specs/Positions.antt`, `marks/specs/Marks.antt`, `numbers/specs/Numbers.antt`,
+--                          `sounding/specs/Answers.antt`, `columns/specs/Laying.antt`, and `Inner.antt` of `fields` and `text`
 --   OfCalls                demand 1
 --
 -- Assumes nothing.
@@ -50,8 +50,10 @@ use Rattle.sounding.specs.Answers.{headOf, Tells}
 use Rattle.sounding.specs.declared.Sounding.{Sounding}
 use Rattle.reader.specs.Answers.{gridOf}
 use Rattle.reader.specs.Calls.{FileRead}
+use Rattle.positions.specs.Positions.{checkPositions}
 use Rattle.corners.specs.declared.Root.{Root}
 use Rattle.corners.specs.CornerPoints.{cornerPoint, pointOf}
+use Rattle.corners.specs.Section.{PointColumns, SectionFilled}
 use Rattle.forms.specs.Forms.{formOf}
 use Rattle.text.specs.Text.{longestOutput}
 use Rattle.text.specs.Inner.{Put}
@@ -102,6 +104,8 @@ pub record OnLists : Type 0 where
 
 pub record OnParts : Type 0 where
   pub order : (first level second other : ℕ) → Answer comparisonOf [] 0 (accepted (compared first second (compared level other same)))
+  pub check-positions : (l : ℕ) (ps : List ℕ)
+      → Call {M = Unit {0}} checksOf (1 ∷ 5 ∷ []) (length ps) tt (λ r m′. Finds r (checkPositions l ps))
   pub check-marks : (highest : ℕ) (ls ms : List ℕ)
       → Call {M = Unit {0}} checksOf (11 ∷ 13 ∷ 7 ∷ []) (length ms) tt (λ r m′. Finds r (checkMarks highest ls ms))
   pub number-at : (bytes : List ℕ) (i : ℕ) → Answer foundOf (19 ∷ 20 ∷ []) i (numberAt bytes i)
@@ -119,6 +123,8 @@ pub record OfCalls : Type 0 where
   pub on-prisms : OnElements prism prismOf (1 ∷ 2 ∷ 3 ∷ 4 ∷ [])
   pub on-lists : OnLists
   pub on-points : (l p i : ℕ) (r : Root) → Answer pointOf (1 ∷ 5 ∷ 8 ∷ 24 ∷ []) 0 (cornerPoint l p i r)
+  pub on-sections : (l : ℕ) (ps : List ℕ) (i : ℕ) (r : Root) (m : PointColumns)
+      → Call passOf (11 ∷ 1 ∷ 5 ∷ 8 ∷ 24 ∷ []) (length ps) m (λ a m′. SectionFilled l ps i r a m m′)
   pub on-orders : (input m : List ℕ) → Call valueOf (14 ∷ []) longestOutput m (λ r m′. Answered r input m m′)
   pub on-forms : (input : List ℕ) → Answer formOf (1 ∷ 15 ∷ 17 ∷ 23 ∷ []) 8 (forms.read input)
   pub field-from-1 : (input : List ℕ) (number field : ℕ) → forms.read input ≡ refused number field → 1 ≤ field

@@ -8,7 +8,7 @@
 --                     element
 --   ListsOverC        the functions on lists and files
 --   Low               the largest places of the list, file and order calls are below 2^56, so that `Word` reads them back; those of points and
---                     elements are 0 or 1, but a family's, which is at most the number of elements
+--                     elements are 0 or 1, but a family's, which is at most the number of elements, and a section's, at most that of positions
 --   OverC             all of it, and what the result of an accepted outcome holds (`Shown` of `results/specs/Laws.antt`)
 --
 -- What a caller in C must hold to, since C can't: docs/PROMISES.md, "What is assumed".
@@ -34,11 +34,12 @@ use Rattle.writer.specs.Calls.{write}
 use Rattle.reader.specs.Calls.{read}
 use Rattle.corners.specs.declared.Root.{Root}
 use Rattle.corners.specs.CornerPoints.{cornerPoint}
+use Rattle.corners.specs.Section.{PointColumns, cornerPoints}
 use Rattle.text.specs.Text.{longestOutput}
 use Rattle.orders.specs.Calls.{answer}
 use Rattle.results.specs.Results.{lineResult, triangleResult, prismResult, numberResult, truthResult, compareResult, passResult, pointResult}
 use Rattle.results.specs.Laws.{Kind, lines, triangles, prisms, numbers, comparisons, points, grids, words, Word, Shown}
-use Rattle.interface.specs.Calls.{UniformResult, AdaptResult, SharesResult, WriteResult, ReadResult, OrderResult}
+use Rattle.interface.specs.Calls.{PointsResult, UniformResult, AdaptResult, SharesResult, WriteResult, ReadResult, OrderResult}
 use Rattle.tree.specs.Calls as calls
 use Rattle.promises.specs.Demand1.{filed}
 
@@ -90,6 +91,8 @@ pub record OverC : Type 0 where
   pub on-prisms : ElementsOverC prism prisms prismResult (1 ∷ 2 ∷ 3 ∷ 4 ∷ [])
   pub on-lists : ListsOverC
   pub on-points : (l p i : ℕ) (r : Root) → Returns points (1 ∷ 5 ∷ 8 ∷ 24 ∷ []) 0 pointResult (cornerPoint l p i r)
+  pub on-sections : (l : ℕ) (ps : List ℕ) (i : ℕ) (r : Root) (m : PointColumns)
+      → Flat words (11 ∷ 1 ∷ 5 ∷ 8 ∷ 24 ∷ []) (length ps) (cornerPoints l ps i r m) m (λ a m′. PointsResult l ps i r a m m′)
   pub on-orders : (input m : List ℕ) → Flat numbers (14 ∷ []) longestOutput (answer input (length m)) m (λ r m′. OrderResult r input m m′)
   pub shown : Shown
   pub low : Low

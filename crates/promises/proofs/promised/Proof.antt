@@ -13,7 +13,7 @@ returns c =
     record {
       demand-1 = record { of-calls = of-calls; over-c = over-c };
       demand-2 = demand-2;
-      demand-3 = record { of-grids = of-grids; in-memory = in-memory; in-memory-over-c = in-memory-over-c lists-over-c };
+      demand-3 = record { of-grids = of-grids; in-memory = in-memory; in-memory-over-c = in-memory-over-c over-c };
       starred-examples = starred-hold;
     }
 
