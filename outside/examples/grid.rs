@@ -44,7 +44,8 @@ fn main() -> Result<(), Refusal> {
     marks[2] = 1;
     let mut grid = List::empty();
     let (root, level, position) = start.columns();
-    grid.count = adapt(ROOTS, root, level, position, &marks, &mut grid.root, &mut grid.level, &mut grid.position)? as usize;
+    grid.count =
+        adapt(ROOTS, root, level, position, &marks, &mut grid.root, &mut grid.level, &mut grid.position)? as usize;
 
     let mut file = [0; 64];
     let (root, level, position) = grid.columns();

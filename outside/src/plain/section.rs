@@ -1,8 +1,9 @@
-//! Corner points for a whole section, without a walk down the levels: the bits of a word have the types of all levels
-//! at once, and then all steps. No position waits for another, so that the compiler takes two at a time.
+//! Corner points for a whole section, in two ways. All levels at once, without a walk down the levels: the bits of a
+//! word have the types of all levels, and then all steps; no position waits for another, so that the compiler takes two
+//! at a time. And walking, digit by digit, but from the parent of the last position where the next has the same one.
 
 use super::point::far;
-use super::HIGHEST;
+use super::{CHILD, HIGHEST};
 use crate::{Corner, Root};
 
 /// Positions that are taken together. Two loops of this fixed length are a tenth faster than one over the section.
@@ -22,19 +23,10 @@ struct Section {
     factors: [[f64; 6]; 3],
 }
 
-/// Writes the points of a corner at the positions of a level. Gives 0, or place * 256 + number.
-#[inline(never)]
-pub fn corner_points(
-    level: u8,
-    positions: &[u64],
-    corner: u8,
-    root: Root,
-    x: &mut [f64],
-    y: &mut [f64],
-    z: &mut [f64],
-) -> u64 {
-    let count = positions.len();
-    if x.len() != count || y.len() != count || z.len() != count {
+/// 0, or place * 256 + number: the refusal of a section.
+#[inline(always)]
+fn refusal(level: u8, positions: &[u64], corner: u8, root: &Root, lengths: [usize; 3]) -> u64 {
+    if lengths != [positions.len(); 3] {
         return 11;
     }
     if level > HIGHEST {
@@ -52,8 +44,28 @@ pub fn corner_points(
     if root.corners.iter().any(far) {
         return 24;
     }
-    let factors = [factors(level, root, |c| c.x), factors(level, root, |c| c.y), factors(level, root, |c| c.z)];
-    let section = Section { step: STEP[corner as usize % 3], top: corner as u64 / 3, factors };
+    0
+}
+
+/// Writes the points of a corner at the positions of a level, all levels of a position at once. Gives 0, or
+/// place * 256 + number.
+#[inline(never)]
+pub fn corner_points(
+    level: u8,
+    positions: &[u64],
+    corner: u8,
+    root: Root,
+    x: &mut [f64],
+    y: &mut [f64],
+    z: &mut [f64],
+) -> u64 {
+    let refusal = refusal(level, positions, corner, &root, [x.len(), y.len(), z.len()]);
+    if refusal != 0 {
+        return refusal;
+    }
+    let section =
+        Section { step: STEP[corner as usize % 3], top: corner as u64 / 3, factors: all_factors(level, root) };
+    let count = positions.len();
     let whole = count - count % BLOCK;
     for i in (0..whole).step_by(BLOCK) {
         write::<BLOCK>(&section, i, positions, x, y, z);
@@ -62,6 +74,81 @@ pub fn corner_points(
         write::<1>(&section, i, positions, x, y, z);
     }
     0
+}
+
+/// The same, walking. Gives 0, or place * 256 + number.
+#[inline(never)]
+pub fn corner_points_walking(
+    level: u8,
+    positions: &[u64],
+    corner: u8,
+    root: Root,
+    x: &mut [f64],
+    y: &mut [f64],
+    z: &mut [f64],
+) -> u64 {
+    let refusal = refusal(level, positions, corner, &root, [x.len(), y.len(), z.len()]);
+    if refusal != 0 {
+        return refusal;
+    }
+    let factors = all_factors(level, root);
+    let offsets = offsets(level, corner);
+    let (mut above, mut parent) = (0, Parent { x: 0, y: 0, z: 0, kind: 0 });
+    let points = x.iter_mut().zip(y).zip(z);
+    for (&position, ((x, y), z)) in positions.iter().zip(points) {
+        if position >> 3 != above {
+            above = position >> 3;
+            parent = parent_at(level - 1, above);
+        }
+        let [dx, dy, dz] = offsets[parent.kind & 1][(position & 7) as usize];
+        let [a, b, c] = [parent.x + dx, parent.y + dy, parent.z + dz].map(|v| v as i32 as f64);
+        *x = value(&factors[0], a, b, c);
+        *y = value(&factors[1], a, b, c);
+        *z = value(&factors[2], a, b, c);
+    }
+    0
+}
+
+/// The parent of an element, its anchor in sides of the child.
+struct Parent {
+    x: u32,
+    y: u32,
+    z: u32,
+    kind: usize,
+}
+
+/// The parent of a level at a position, down from the root.
+#[inline(always)]
+fn parent_at(level: u8, position: u64) -> Parent {
+    let mut e = Parent { x: 0, y: 0, z: 0, kind: 0 };
+    for i in (0..level).rev() {
+        let number = position >> (3 * i);
+        let row = CHILD[e.kind][(number & 3) as usize];
+        e.x = e.x << 1 | (row.step & 1) as u32;
+        e.y = e.y << 1 | (row.step >> 1) as u32;
+        e.z = e.z << 1 | (number >> 2 & 1) as u32;
+        e.kind = row.kind as usize;
+    }
+    Parent { x: 2 * e.x, y: 2 * e.y, z: 2 * e.z, kind: e.kind }
+}
+
+/// How far the corner of each child lies from the parent's anchor, in sides of the child, by the parent's type and the
+/// child's number. Level 0 has the root alone, as child 0.
+fn offsets(level: u8, corner: u8) -> [[[u32; 3]; 8]; 2] {
+    let (step_x, step_y, turn) = STEP[corner as usize % 3];
+    std::array::from_fn(|kind| {
+        std::array::from_fn(|number| {
+            let row = CHILD[kind][number & 3];
+            let (x, y, z) = if level == 0 { (0, 0, 0) } else { (row.step & 1, row.step >> 1, number as u8 / 4) };
+            let turn = if level == 0 { 0 } else { turn as u32 * row.kind as u32 };
+            [x as u32 + step_x as u32 - turn, y as u32 + step_y as u32 + turn, z as u32 + corner as u32 / 3]
+        })
+    })
+}
+
+#[inline(always)]
+fn all_factors(level: u8, root: Root) -> [[f64; 6]; 3] {
+    [factors(level, root, |c| c.x), factors(level, root, |c| c.y), factors(level, root, |c| c.z)]
 }
 
 /// The factors of 1, x, y, z, x z and y z in a coordinate, where x, y and z are counted in sides.

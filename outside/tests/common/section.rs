@@ -23,6 +23,33 @@ pub struct Section {
 /// The three columns, as bits.
 pub type Points = [Vec<u64>; 3];
 
+type Column<'a> = &'a mut [f64];
+type Call = fn(u8, &[u64], u8, Root, Column, Column, Column) -> Result<(), Refusal>;
+
+fn at_once(
+    level: u8,
+    positions: &[u64],
+    corner: u8,
+    root: Root,
+    x: Column,
+    y: Column,
+    z: Column,
+) -> Result<(), Refusal> {
+    Refusal::from_c(plain::section::corner_points(level, positions, corner, root, x, y, z))
+}
+
+fn walking(
+    level: u8,
+    positions: &[u64],
+    corner: u8,
+    root: Root,
+    x: Column,
+    y: Column,
+    z: Column,
+) -> Result<(), Refusal> {
+    Refusal::from_c(plain::section::corner_points_walking(level, positions, corner, root, x, y, z))
+}
+
 impl Section {
     /// With columns of the positions' length.
     pub fn new(level: u8, positions: Vec<u64>, corner: u8, root: Root) -> Self {
@@ -30,20 +57,18 @@ impl Section {
         Section { level, positions, corner, root, room }
     }
 
+    /// The two ways of the plain code agree.
     pub fn ask(&self, filling: Filling) -> Answers<Points> {
-        [self.points(true, filling), self.points(false, filling), self.naive()]
+        let plain = self.points(at_once, filling);
+        assert_eq!(self.points(walking, filling), plain, "the two ways of the plain code: {self:?}");
+        [self.points(corner_points, filling), plain, self.naive()]
     }
 
-    fn points(&self, proved: bool, filling: Filling) -> Result<Points, Refusal> {
+    fn points(&self, call: Call, filling: Filling) -> Result<Points, Refusal> {
         let lent = Lent::holding(&self.positions);
         let [mut x, mut y, mut z] = self.room.map(|length| Lent::<f64>::filled(length, filling));
         let (level, positions, corner, root) = (self.level, lent.read(), self.corner, self.root);
-        let answer = if proved {
-            corner_points(level, positions, corner, root, x.write(), y.write(), z.write())
-        } else {
-            let (x, y, z) = (x.write(), y.write(), z.write());
-            Refusal::from_c(plain::section::corner_points(level, positions, corner, root, x, y, z))
-        };
+        let answer = call(level, positions, corner, root, x.write(), y.write(), z.write());
         lent.holds(&self.positions);
         let count = answer.map_or(0, |()| self.positions.len());
         let written = [x, y, z].map(|column| column.front(count, filling).into_iter().map(f64::bits).collect());

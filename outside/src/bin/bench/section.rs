@@ -1,4 +1,5 @@
-//! Nanoseconds a point of a section, and of the same points by single calls.
+//! Nanoseconds a point of a section: the proved call, plain Rust that walks as it does, plain Rust that takes all levels
+//! at once, and the same points by single calls.
 
 use std::hint::black_box;
 use std::time::Instant;
@@ -26,7 +27,12 @@ fn proved(section: &Section, [x, y, z]: &mut Columns) -> Result<(), Refusal> {
     corner_points(section.level, &section.positions, section.corner, section.root, x, y, z)
 }
 
-fn plain(section: &Section, [x, y, z]: &mut Columns) -> Result<(), Refusal> {
+fn walking(section: &Section, [x, y, z]: &mut Columns) -> Result<(), Refusal> {
+    let Section { level, positions, corner, root } = section;
+    Refusal::from_c(plain::section::corner_points_walking(*level, positions, *corner, *root, x, y, z))
+}
+
+fn at_once(section: &Section, [x, y, z]: &mut Columns) -> Result<(), Refusal> {
     let Section { level, positions, corner, root } = section;
     Refusal::from_c(plain::section::corner_points(*level, positions, *corner, *root, x, y, z))
 }
@@ -52,31 +58,35 @@ fn time(section: &Section, columns: &mut Columns, call: Call) -> f64 {
     start.elapsed().as_secs_f64()
 }
 
-/// Best of the calls, proved, plain and single in turn, printed as one row.
+/// Best of the calls, in turn, printed as one row.
 fn row(name: &str, section: &Section, columns: &mut Columns) {
-    let calls: [Call; 3] = [proved, plain, single];
+    let calls: [Call; 4] = [proved, walking, at_once, single];
     let written = calls.map(|call| {
         columns.iter_mut().for_each(|column| column.fill(f64::NAN));
         call(section, columns).map(|()| columns.clone())
     });
     let differ = written.iter().any(|columns| columns.is_err() || *columns != written[0]);
     let remark = if differ { "  ANSWERS DIFFER" } else { "" };
-    let mut best = [f64::INFINITY; 3];
+    let mut best = [f64::INFINITY; 4];
     for _ in 0..CALLS {
         for (best, call) in best.iter_mut().zip(calls) {
             *best = best.min(time(section, columns, call));
         }
     }
-    let [proved, plain, single] = best.map(|seconds| seconds * 1e9 / POSITIONS as f64);
+    let [proved, walking, at_once, single] = best.map(|seconds| seconds * 1e9 / POSITIONS as f64);
     let level = section.level;
-    println!("{name:<32} {level:>5} {proved:>9.2} {plain:>9.2} {:>7.2} {single:>9.2}{remark}", proved / plain);
+    let ratio = proved / walking;
+    println!("{name:<32} {level:>5} {proved:>9.2} {walking:>9.2} {ratio:>7.2} {at_once:>9.2} {single:>9.2}{remark}");
 }
 
 pub fn rows(random: &mut Random) {
     println!(
         "Nanoseconds a point of {POSITIONS} positions; best of {CALLS} calls in turn; single = a proved call for each."
     );
-    println!("{:<32} {:>5} {:>9} {:>9} {:>7} {:>9}", "call", "level", "proved", "plain", "ratio", "single");
+    println!(
+        "{:<32} {:>5} {:>9} {:>9} {:>7} {:>9} {:>9}",
+        "call", "level", "proved", "plain", "ratio", "at once", "single"
+    );
     let columns = &mut [0; 3].map(|_| vec![0.0; POSITIONS]);
     for level in [6, 21] {
         let count = (Prism::CHILDREN as u64).pow(level as u32);
