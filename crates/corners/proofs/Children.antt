@@ -1,22 +1,60 @@
 -- A corner of a child, from the parent: two steps of none or one side of the child, the child's from the parent's anchor and the corner's from
--- its own, stay within the parent's side. Assumes nothing.
-use mathlib.Core.Path.{_≡_, sym, ap, ap₂, _∙_, subst⁻¹}
-use Prim.Native.Nat.{ℕ, suc, _+_, _*_, _/_, _%_, _^_, _≤_, _<_}
-use native.Mathlib.Nat.{mod-eq-of-lt, add-mul, mul-le-mul-right}
+-- its own, stay within the parent's side; a digit has both. Assumes nothing.
+use mathlib.Core.Path.{_≡_, refl, sym, ap, _∙_, subst⁻¹}
+use Prim.Native.Nat.{ℕ, zero, suc, _+_, _*_, _/_, _%_, _^_, _≤_, _<_}
+use native.Mathlib.Nat.{add-mul, mod-lt, mul-le-mul-right}
 use native.Mathlib.Numerals.{add-one}
 use native.Mathlib.Omega.{arith}
+use lib.Dec.{lit<, lit≤}
 use Rattle.tree.specs.Anchors.{side}
 use Rattle.tree.specs.Laws.{Sound}
 use Rattle.tree.proofs.Anchor.{side-suc}
-use Rattle.rows.specs.declared.Step.{Step}
 use Rattle.rows.specs.Rows.{childRow}
-use Rattle.rows.proofs.Tables.{row-small}
+use Rattle.rows.proofs.Tables.{each-child}
 use Rattle.prism.specs.declared.Prism.{Prism}
 use Rattle.prism.specs.Elements.{prism, prismTo}
 use Rattle.prism.specs.Points as prisms
 use Rattle.corners.specs.declared.work.Local.{Local}
-use Rattle.corners.specs.Inner.{CornerRow, localOf}
-use Rattle.corners.proofs.LocalCorners.{room, found}
+use Rattle.corners.specs.declared.section.Section.{Section}
+use Rattle.corners.specs.Inner.{CornerRow, localOf, stepsTo, AtChild}
+use Rattle.corners.proofs.LocalCorners.{room, corner-row, found}
+
+-- ---- the digits: child n of a parent of type t, its corner c
+record StepTo (t n c d : ℕ) : Type 0 where
+  sides : ℕ
+  its-sides : CornerRow (childRow t n .kind) c sides
+  along-x : d / 4 ≡ childRow t n .x + sides / 2
+  along-y : d % 4 ≡ childRow t n .y + sides % 2
+  few-x : d / 4 ≤ 2
+  few-y : d % 4 ≤ 2
+
+step : {t n c d : ℕ} (s : ℕ) → CornerRow (childRow t n .kind) c s → d / 4 ≡ childRow t n .x + s / 2 → d % 4 ≡ childRow t n .y + s % 2 → d / 4 ≤ 2 → d % 4 ≤ 2
+    → StepTo t n c d
+step s row x y few-x few-y = record { sides = s; its-sides = row; along-x = x; along-y = y; few-x = few-x; few-y = few-y }
+
+abbrev digit : ℕ → ℕ → ℕ → ℕ
+digit c t n = stepsTo c / 2 ^ (16 * t + 4 * n) % 16
+
+step-to : (c : ℕ) → c < 3 → (t n : ℕ) → t < 2 → n < 4 → StepTo t n c (digit c t n)
+step-to zero few =
+    each-child (λ t n. StepTo t n 0 (digit 0 t n))
+    (step 0 (corner-row 0 0 (lit< tt) (lit< tt)) refl refl (lit≤ tt) (lit≤ tt)) (step 0 (corner-row 0 0 (lit< tt) (lit< tt)) refl refl (lit≤ tt) (lit≤ tt))
+    (step 0 (corner-row 1 0 (lit< tt) (lit< tt)) refl refl (lit≤ tt) (lit≤ tt)) (step 0 (corner-row 0 0 (lit< tt) (lit< tt)) refl refl (lit≤ tt) (lit≤ tt))
+    (step 0 (corner-row 1 0 (lit< tt) (lit< tt)) refl refl (lit≤ tt) (lit≤ tt)) (step 0 (corner-row 0 0 (lit< tt) (lit< tt)) refl refl (lit≤ tt) (lit≤ tt))
+    (step 0 (corner-row 1 0 (lit< tt) (lit< tt)) refl refl (lit≤ tt) (lit≤ tt)) (step 0 (corner-row 1 0 (lit< tt) (lit< tt)) refl refl (lit≤ tt) (lit≤ tt))
+step-to (suc zero) few =
+    each-child (λ t n. StepTo t n 1 (digit 1 t n))
+    (step 2 (corner-row 0 1 (lit< tt) (lit< tt)) refl refl (lit≤ tt) (lit≤ tt)) (step 2 (corner-row 0 1 (lit< tt) (lit< tt)) refl refl (lit≤ tt) (lit≤ tt))
+    (step 1 (corner-row 1 1 (lit< tt) (lit< tt)) refl refl (lit≤ tt) (lit≤ tt)) (step 2 (corner-row 0 1 (lit< tt) (lit< tt)) refl refl (lit≤ tt) (lit≤ tt))
+    (step 1 (corner-row 1 1 (lit< tt) (lit< tt)) refl refl (lit≤ tt) (lit≤ tt)) (step 2 (corner-row 0 1 (lit< tt) (lit< tt)) refl refl (lit≤ tt) (lit≤ tt))
+    (step 1 (corner-row 1 1 (lit< tt) (lit< tt)) refl refl (lit≤ tt) (lit≤ tt)) (step 1 (corner-row 1 1 (lit< tt) (lit< tt)) refl refl (lit≤ tt) (lit≤ tt))
+step-to (suc (suc zero)) few =
+    each-child (λ t n. StepTo t n 2 (digit 2 t n))
+    (step 3 (corner-row 0 2 (lit< tt) (lit< tt)) refl refl (lit≤ tt) (lit≤ tt)) (step 3 (corner-row 0 2 (lit< tt) (lit< tt)) refl refl (lit≤ tt) (lit≤ tt))
+    (step 3 (corner-row 1 2 (lit< tt) (lit< tt)) refl refl (lit≤ tt) (lit≤ tt)) (step 3 (corner-row 0 2 (lit< tt) (lit< tt)) refl refl (lit≤ tt) (lit≤ tt))
+    (step 3 (corner-row 1 2 (lit< tt) (lit< tt)) refl refl (lit≤ tt) (lit≤ tt)) (step 3 (corner-row 0 2 (lit< tt) (lit< tt)) refl refl (lit≤ tt) (lit≤ tt))
+    (step 3 (corner-row 1 2 (lit< tt) (lit< tt)) refl refl (lit≤ tt) (lit≤ tt)) (step 3 (corner-row 1 2 (lit< tt) (lit< tt)) refl refl (lit≤ tt) (lit≤ tt))
+step-to (suc (suc (suc c))) few = absurd (omega arith)
 
 -- ---- within the edge
 pub record Spans (e : Prism) (h a b c : ℕ) : Type 0 where
@@ -30,7 +68,7 @@ pub record Spans (e : Prism) (h a b c : ℕ) : Type 0 where
 two-sides : (n h a : ℕ) → n ≤ 2 → a + 2 * h ≤ 2 ^ 21 → a + n * h ≤ 2 ^ 21
 two-sides n h a few inside = omega (arith, mul-le-mul-right h few)
 
-pub spans : (e : Prism) (h a b c : ℕ) → h ≡ side 21 (e .level + 1) → Sound prism e → e .level < 21 → a ≤ 2 → b ≤ 2 → c ≤ 2 → Spans e h a b c
+spans : (e : Prism) (h a b c : ℕ) → h ≡ side 21 (e .level + 1) → Sound prism e → e .level < 21 → a ≤ 2 → b ≤ 2 → c ≤ 2 → Spans e h a b c
 spans e h a b c same sound above few-a few-b few-c =
     let r = room e sound in
     let whole : side 21 (e .level) ≡ 2 * h =
@@ -41,20 +79,46 @@ spans e h a b c same sound above few-a few-b few-c =
     record { step-x = omega arith; step-y = omega arith; step-z = omega arith; to-x = far-x; to-y = far-y; to-z = far-z }
 
 -- ---- the corner
-shared : (x a b h : ℕ) → x + (a + b) * h ≡ x + a * h + b * h
-shared x a b h = omega (arith, add-mul a b h)
+shared : (x a b d h : ℕ) → d ≡ a + b → x + d * h ≡ x + a * h + b * h
+shared x a b d h is = ap (λ (k : ℕ). x + k * h) is ∙ omega (arith, add-mul a b h)
 
-pub below : (e : Prism) (n i h s : ℕ) (row : Step) → h ≡ side 21 (e .level + 1) → row ≡ childRow (e .kind % 2) (n % 4) → Sound prism e
-    → CornerRow (row .kind) (i % 3) s
-    → _≡_ {A = Local} (record { x = e .x + (row .x + s / 2) * h; y = e .y + (row .y + s % 2) * h; z = e .z + (n / 4 + i / 3) * h })
-    (localOf (prisms.corner 21 (prism .child e n) i))
+below : (e : Prism) (n i h d : ℕ) → h ≡ side 21 (e .level + 1) → StepTo (e .kind) (n % 4) (i % 3) d
+    → _≡_ {A = Local} (record { x = e .x + d / 4 * h; y = e .y + d % 4 * h; z = e .z + (n / 4 + i / 3) * h }) (localOf (prisms.corner 21 (prism .child e n) i))
 unfolding prismTo
-below e n i h s row same is sound corner =
+below e n i h d same s =
     let sized : h ≡ side 21 (suc (e .level)) = same ∙ ap (side 21) (add-one (e .level)) in
-    let in-row : row ≡ childRow (e .kind) (n % 4) = is ∙ ap (λ (t : ℕ). childRow t (n % 4)) (mod-eq-of-lt (room e sound .two-types)) in
-    let child : Step → ℕ → Prism = λ q m. record { x = e .x + q .x * m; y = e .y + q .y * m; z = e .z + n / 4 * m; level = suc (e .level); kind = q .kind } in
+    let row = childRow (e .kind) (n % 4) in
+    let child : ℕ → Prism = λ m. record { x = e .x + row .x * m; y = e .y + row .y * m; z = e .z + n / 4 * m; level = suc (e .level); kind = row .kind } in
     let local : ℕ → ℕ → ℕ → Local = λ x y z. record { x = x; y = y; z = z } in
-    let parts : local (e .x + (row .x + s / 2) * h) (e .y + (row .y + s % 2) * h) (e .z + (n / 4 + i / 3) * h)
-    ≡ local (child row h .x + s / 2 * h) (child row h .y + s % 2 * h) (child row h .z + i / 3 * h) =
-    λ k. record { x = shared (e .x) (row .x) (s / 2) h k; y = shared (e .y) (row .y) (s % 2) h k; z = shared (e .z) (n / 4) (i / 3) h k } in
-    parts ∙ found (child row h) i h s sized corner ∙ ap₂ (λ (q : Step) (m : ℕ). localOf (prisms.corner 21 (child q m) i)) in-row sized
+    let parts : local (e .x + d / 4 * h) (e .y + d % 4 * h) (e .z + (n / 4 + i / 3) * h)
+    ≡ local (child h .x + s .sides / 2 * h) (child h .y + s .sides % 2 * h) (child h .z + i / 3 * h) =
+    λ k. local
+    (shared (e .x) (row .x) (s .sides / 2) (d / 4) h (s .along-x) k)
+    (shared (e .y) (row .y) (s .sides % 2) (d % 4) h (s .along-y) k)
+    (shared (e .z) (n / 4) (i / 3) (n / 4 + i / 3) h refl k) in
+    parts ∙ found (child h) i h (s .sides) sized (s .its-sides) ∙ ap (λ (m : ℕ). localOf (prisms.corner 21 (child m) i)) sized
+
+-- ---- as the code has it
+module _ (s : Section) (e : Prism) (n : ℕ) (a : AtChild s e n) where
+  abbrev d : ℕ
+  d = s .steps / 2 ^ (16 * e .kind + 4 * (n % 4)) % 16
+
+  sized : s .side ≡ side 21 (e .level + 1)
+  sized = a .whole .its-side ∙ ap (side 21) (a .below)
+
+  pub two-types : e .kind < 2
+  two-types = room e (a .sound) .two-types
+
+  digit-is : StepTo (e .kind) (n % 4) (s .corner % 3) d
+  digit-is =
+      subst⁻¹ (λ (w : ℕ). StepTo (e .kind) (n % 4) (s .corner % 3) (w / 2 ^ (16 * e .kind + 4 * (n % 4)) % 16)) (a .whole .its-steps)
+      (step-to (s .corner % 3) (mod-lt (s .corner) (lit< tt)) (e .kind) (n % 4) two-types (mod-lt n (lit< tt)))
+
+  pub in-reach : Spans e (s .side) (d / 4) (d % 4) (n / 4 + s .corner / 3)
+  in-reach =
+      spans e (s .side) (d / 4) (d % 4) (n / 4 + s .corner / 3) sized (a .sound) (a .above) (digit-is .few-x) (digit-is .few-y)
+      (omega (arith, a .child, a .whole .numbered))
+
+  pub is-corner : _≡_ {A = Local} (record { x = e .x + d / 4 * s .side; y = e .y + d % 4 * s .side; z = e .z + (n / 4 + s .corner / 3) * s .side })
+      (localOf (prisms.corner 21 (prism .child e n) (s .corner)))
+  is-corner = below e n (s .corner) (s .side) d sized digit-is

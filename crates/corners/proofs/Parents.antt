@@ -1,7 +1,7 @@
 -- An element is a child of the element one level up at an eighth of its position; in level 0 that is the root, and the element itself. Assumes
 -- nothing.
 use mathlib.Core.Path.{_≡_, refl, sym, ap, subst⁻¹}
-use Prim.Native.Nat.{ℕ, zero, suc, _-_, _/_, _%_, _^_, _≤_, _<_}
+use Prim.Native.Nat.{ℕ, zero, suc, _+_, _-_, _/_, _%_, _^_, _≤_, _<_}
 use native.Mathlib.Omega.{arith}
 use lib.Dec.{lit<}
 use Rattle.tree.specs.Laws.{Sound}
@@ -29,10 +29,9 @@ unfolding elementAt prismTo
 child-of zero p some = absurd (some refl)
 child-of (suc l) p some = ap (λ (k : ℕ). prism .child (elementAt prism k (p / 8)) (p % 8)) (sym (up l))
 
-module _ (l p : ℕ) (shallow : l ≤ 21) (below : p < 8 ^ l) where
-  pub parent-sound : Sound prism (elementAt prism (l - 1) (p / 8))
-  parent-sound = element-sound (l - 1) (p / 8) (omega arith) (parent-inside l p below)
+pub parent-sound : (l p : ℕ) → l ≤ 21 → p < 8 ^ l → Sound prism (elementAt prism (l - 1) (p / 8))
+parent-sound l p shallow below = element-sound (l - 1) (p / 8) (omega arith) (parent-inside l p below)
 
-  pub parent-above : (l ≡ 0 → ⊥) → elementAt prism (l - 1) (p / 8) .level < 21
-  unfolding prismTo
-  parent-above some = let is : elementAt prism (l - 1) (p / 8) .level ≡ l - 1 = at-level prism (lawful 21) (l - 1) (p / 8) in omega (arith, is)
+pub one-above : (l p : ℕ) → (l ≡ 0 → ⊥) → l ≡ elementAt prism (l - 1) (p / 8) .level + 1
+unfolding prismTo
+one-above l p some = let is : elementAt prism (l - 1) (p / 8) .level ≡ l - 1 = at-level prism (lawful 21) (l - 1) (p / 8) in omega (arith, is)

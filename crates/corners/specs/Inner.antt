@@ -8,25 +8,32 @@
 --   blend           Q from the three
 --   Kept, keptAt    an element and its position; the element of level u at position p, with that position
 --   Tested          what the tests of the call over a column of positions have shown
+--   stepsTo c       the word of the steps to corner c of a triangle's children; that they are the paper's is a law (`proofs/Children.antt`)
+--   Whole s         the section s has the side of its level and the steps to its corner
+--   AtPosition      a position of the section's level, and its parent; in level 0 the root
+--   AtChild         a child of a parent that has children, one level above the section's
 --
 -- Assumes nothing.
 use mathlib.Core.Path.{_≡_}
 use mathlib.Core.Bool.{true}
 use mathlib.Core.List.{List, [], _∷_}
-use Prim.Native.Nat.{ℕ, _+_, _*_, _/_, _%_, _^_, _≤_, _<_}
+use Prim.Native.Nat.{ℕ, zero, suc, _+_, _-_, _*_, _/_, _%_, _^_, _≤_, _<_}
 use lib.IntN.{ℤ, pos, natAbs, _+ℤ_, _-ℤ_, _*ℤ_}
 use lib.ListN.{getD}
 use Rattle.paper.specs.Outcome.{passed, checks}
-use Rattle.tree.specs.Anchors.{HIGHEST, EDGE}
+use Rattle.tree.specs.Anchors.{HIGHEST, EDGE, side}
+use Rattle.tree.specs.Laws.{Sound}
 use Rattle.tree.specs.Words.{elementAt}
 use Rattle.triangle.specs.Points.{point, cornersBy}
-use Rattle.prism.specs.Elements.{CORNERS, prism}
+use Rattle.prism.specs.declared.Prism.{Prism}
+use Rattle.prism.specs.Elements.{CHILDREN, CORNERS, prism}
 use Rattle.prism.specs.Points.{lifted}
 use Rattle.prism.specs.Points as prisms
 use Rattle.positions.specs.Positions.{positionFault}
 use Rattle.corners.specs.declared.Root.{Root}
 use Rattle.corners.specs.declared.work.Axis.{Axis}
 use Rattle.corners.specs.declared.work.Local.{Local}
+use Rattle.corners.specs.declared.section.Section.{Section}
 use Rattle.corners.specs.declared.section.Kept.{Kept}
 use Rattle.corners.specs.CornerPoints.{rootWithin}
 use Rattle.corners.specs.Section.{PointColumns, equalLengths}
@@ -83,3 +90,26 @@ pub record Tested (l : ℕ) (ps : List ℕ) (i : ℕ) (r : Root) (m : PointColum
   pub inside : checks (positionFault l) ps ≡ passed
   pub numbered : i < CORNERS
   pub near : rootWithin r ≡ true
+
+abbrev pub stepsTo : ℕ → ℕ
+stepsTo zero = 1360024640
+stepsTo (suc zero) = 1649513860
+stepsTo (suc (suc c)) = 2791680405
+
+pub record Whole (s : Section) : Type 0 where
+  pub its-side : s .side ≡ side HIGHEST (s .level)
+  pub its-steps : s .steps ≡ stepsTo (s .corner % 3)
+  pub numbered : s .corner < CORNERS
+
+pub record AtPosition (s : Section) (p : ℕ) (e : Prism) : Type 0 where
+  pub whole : Whole s
+  pub shallow : s .level ≤ HIGHEST
+  pub inside : p < CHILDREN ^ s .level
+  pub parent : e ≡ elementAt prism (s .level - 1) (p / CHILDREN)
+
+pub record AtChild (s : Section) (e : Prism) (n : ℕ) : Type 0 where
+  pub whole : Whole s
+  pub below : s .level ≡ e .level + 1
+  pub above : e .level < HIGHEST
+  pub sound : Sound prism e
+  pub child : n < CHILDREN

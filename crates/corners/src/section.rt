@@ -8,15 +8,23 @@ use prism::PrismAnswer;
 use triangle::Triangle;
 ghost use mathlib.Core.Path.{_≡_};
 ghost use mathlib.Core.Bool.{_&&_};
-ghost use Prim.Native.Nat.{_-_, _/_, _^_, _<_, _≤_};
+ghost use Prim.Native.Nat.{_-_, _%_, _^_, _<_, _≤_};
 ghost use lib.Dec.{eqb};
 ghost use Rattle.tree.specs.Anchors.{HIGHEST};
-ghost use Rattle.tree.specs.Laws.{Sound};
 ghost use Rattle.tree.specs.Words.{elementAt};
-ghost use Rattle.prism.specs.Elements.{CHILDREN, CORNERS, prism};
+ghost use Rattle.triangle.specs.Elements as triangles;
+ghost use Rattle.prism.specs.Elements.{CHILDREN, prism};
 ghost use Rattle.prism.specs.Points as prisms;
 ghost use Rattle.corners.specs.Section.{pointColumns, points, filled};
-ghost use Rattle.corners.specs.Inner.{localOf, keptAt, Tested};
+ghost use Rattle.corners.specs.Inner.{localOf, keptAt, Tested, stepsTo, AtPosition, AtChild};
+
+// What all positions share: the level, its side, the corner number, and the steps to that corner.
+struct Section {
+    level: u8,
+    side: u32,
+    corner: u8,
+    steps: u32,
+}
 
 // The parent of the last element, and its position. In level 0 it is the root, which is the element itself.
 struct Kept {
@@ -51,19 +59,40 @@ pub(crate) fn fill(
         ≡ filled (points level (now (positions .entry)) corner root)
         (pointColumns (now (xs .entry)) (now (ys .entry)) (now (zs .entry))) ⌝ }
 {
+    let section = Section {
+        level,
+        side: tree::side(level),
+        corner,
+        steps: steps(corner),
+    };
     let upper = above(level);
     let mut kept = walked(upper, 0);
     let mut i = 0;
     while i < positions.len() {
         let position = positions[i];
         kept = next(upper, position / 8, kept);
-        let local = local_at(level, position, kept.parent, corner);
-        let p = work::placed(root, local);
+        let p = work::placed(root, local_at(section, position, kept.parent));
         xs[i] = p.x;
         ys[i] = p.y;
         zs[i] = p.z;
         i += 1;
     }
+}
+
+// How far a corner of each child lies from the parent's anchor, in sides of the child. A hexadecimal digit for each, those of type 1 before
+// those of type 0, and from child 3 down to child 0; of its four bits the upper two are x, the lower y. A word, since a table would be copied at
+// each read.
+fn steps(corner: u8) -> u32
+    ensures { λ r. ⌜ r ≡ stepsTo (corner % triangles.CORNERS) ⌝ }
+{
+    let number = corner % Triangle::CORNERS;
+    if number == 0 {
+        return 0x5110_5440;
+    }
+    if number == 1 {
+        return 0x6251_9584;
+    }
+    0xa665_a995
 }
 
 // The level of the parents; level 0 has none, and stays.
@@ -107,26 +136,25 @@ fn next(upper: u8, position: u64, kept: Kept) -> Kept
 }
 
 // A corner of the element at a position, from its parent.
-fn local_at(level: u8, position: u64, parent: Prism, corner: u8) -> Local
-    requires { ⌜ (level ≤ HIGHEST) × ((position < CHILDREN ^ level) × ((corner < CORNERS) × (parent ≡ elementAt prism (level - 1) (position / CHILDREN)))) ⌝ }
-    ensures { λ r. ⌜ r ≡ localOf (prisms.corner HIGHEST (elementAt prism level position) corner) ⌝ }
+fn local_at(section: Section, position: u64, parent: Prism) -> Local
+    requires { ⌜ AtPosition section position parent ⌝ }
+    ensures { λ r. ⌜ r ≡ localOf (prisms.corner HIGHEST (elementAt prism (section .level) position) (section .corner)) ⌝ }
 {
-    if level == 0 {
-        return work::local_of(parent, corner);
+    if section.level == 0 {
+        return work::local_of(parent, section.corner);
     }
-    local_below(parent, (position % 8) as u8, corner)
+    local_below(section, parent, (position % 8) as u8)
 }
 
 // A corner of a child: its step from the parent's anchor and the corner's from its own, both in sides of the child.
-fn local_below(parent: Prism, number: u8, corner: u8) -> Local
-    requires { ⌜ (Sound prism parent) × ((parent .level < HIGHEST) × ((number < CHILDREN) × (corner < CORNERS))) ⌝ }
-    ensures { λ r. ⌜ r ≡ localOf (prisms.corner HIGHEST (prism .child parent number) corner) ⌝ }
+fn local_below(section: Section, parent: Prism, number: u8) -> Local
+    requires { ⌜ AtChild section parent number ⌝ }
+    ensures { λ r. ⌜ r ≡ localOf (prisms.corner HIGHEST (prism .child parent number) (section .corner)) ⌝ }
 {
-    let h = tree::side(parent.level + 1);
-    let row = rows::child_row(parent.kind, number);
-    let s = work::sides(row.kind, corner % Triangle::CORNERS);
-    let x = parent.x + (row.x + s / 2) as u32 * h;
-    let y = parent.y + (row.y + s % 2) as u32 * h;
-    let z = parent.z + (number / 4 + corner / Triangle::CORNERS) as u32 * h;
+    let h = section.side;
+    let digit = (section.steps >> (16 * parent.kind + 4 * (number % 4))) % 16;
+    let x = parent.x + digit / 4 * h;
+    let y = parent.y + digit % 4 * h;
+    let z = parent.z + (number / 4 + section.corner / Triangle::CORNERS) as u32 * h;
     Local { x, y, z }
 }

@@ -123,7 +123,7 @@ impl Root {
 // branch would wait for the type, which is known last.
 const CORNER: [[u8; 3]; 2] = [[0b0_0, 0b1_0, 0b1_1], [0b0_0, 0b0_1, 0b1_1]];
 
-pub(crate) fn sides(kind: u8, number: u8) -> u8
+fn sides(kind: u8, number: u8) -> u8
     requires { ⌜ (kind < 2) × (number < triangles.CORNERS) ⌝ }
     ensures { λ r. ⌜ CornerRow kind number r ⌝ }
 {

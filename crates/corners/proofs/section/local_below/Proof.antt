@@ -1,70 +1,36 @@
 -- `local_below` meets its contract: both steps together stay within the parent's side. Assumes nothing.
-use Prim.Native.Nat.{_+_, _/_, _%_}
-use native.Mathlib.Nat.{mod-lt}
 use native.Mathlib.Omega.{arith}
-use lib.Dec.{lit<}
 use borrow.Author.Needs.{needs}
-use Rattle.rows.proofs.Tables.{row-small}
-use Rattle.corners.proofs.Children.{Spans, spans, below}
+use Rattle.corners.proofs.Children.{two-types, in-reach, is-corner}
 use Rattle.corners.proofs.section.local_below.Statement.{statement}
 use Rattle.corners.proofs.section.local_below.Tie as tie
 
-add-side : tie.Need-add-side
-add-side c = search needs
+mul-digit : tie.Need-mul-digit
+mul-digit c = let start = c .before in let a = start .args in omega (arith, two-types (a .section) (a .parent) (a .number) (start .pre))
 
-side-requires : tie.Need-side-requires
-side-requires c κs = search needs
+mul-digit-2 : tie.Need-mul-digit-2
+mul-digit-2 c = search needs
 
-child-row-requires : tie.Need-child-row-requires
-child-row-requires c κs = search needs
+add-digit : tie.Need-add-digit
+add-digit c = let start = c .before in let a = start .args in omega (arith, two-types (a .section) (a .parent) (a .number) (start .pre))
 
-sides-requires : tie.Need-sides-requires
-sides-requires c κs =
-    let a = c .before .before .before .args in
-    (row-small (a .parent .kind) (a .number) (c .child-row .result) (c .child-row .ensures) .1 .1, mod-lt (a .corner) (lit< tt))
+cast-digit : tie.Need-cast-digit
+cast-digit c = search needs
 
--- what is known once the sides are
-spanned : (c : tie.After-sides)
-    → Spans (c .before .before .before .before .args .parent) (c .before .before .side .result) (c .before .child-row .result .x + c .sides .result / 2) (c .before .child-row .result .y + c .sides .result % 2) (c .before .before .before .before .args .number / 4 + c .before .before .before .before .args .corner / 3)
-spanned c =
-    let start = c .before .before .before .before in
-    let a = start .args in
-    let row = c .before .child-row in
-    let bits = row-small (a .parent .kind) (a .number) (row .result) (row .ensures) in
-    let narrow = c .sides .ensures .narrow in
-    spans (a .parent) (c .before .before .side .result) _ _ _ (c .before .before .side .ensures) (start .pre .0) (start .pre .1 .0)
-    (omega (arith, bits .0, narrow)) (omega (arith, bits .1 .0)) (omega (arith, start .pre .1 .1 .0, start .pre .1 .1 .1))
-
-add-x : tie.Need-add-x
-add-x c =
-    let a = c .before .before .before .before .before .args in
-    let row = c .before .before .child-row in
-    omega (arith, row-small (a .parent .kind) (a .number) (row .result) (row .ensures) .0, c .before .sides .ensures .narrow)
-
-cast-x : tie.Need-cast-x
-cast-x c = search needs
+shr-digit : tie.Need-shr-digit
+shr-digit c = let start = c .before .before in let a = start .args in omega (arith, two-types (a .section) (a .parent) (a .number) (start .pre))
 
 mul-x : tie.Need-mul-x
-mul-x c = omega (arith, spanned (c .before) .step-x)
+mul-x c = let start = c .before .before in let a = start .args in omega (arith, in-reach (a .section) (a .parent) (a .number) (start .pre) .step-x)
 
-add-x-2 : tie.Need-add-x-2
-add-x-2 c = omega (arith, spanned (c .before .before) .to-x)
-
-add-y : tie.Need-add-y
-add-y c =
-    let at-row = c .before .before .before .before in
-    let a = at-row .before .before .before .args in
-    let row = at-row .child-row in
-    omega (arith, row-small (a .parent .kind) (a .number) (row .result) (row .ensures) .1 .0)
-
-cast-y : tie.Need-cast-y
-cast-y c = search needs
+add-x : tie.Need-add-x
+add-x c = let start = c .before .before .before in let a = start .args in omega (arith, in-reach (a .section) (a .parent) (a .number) (start .pre) .to-x)
 
 mul-y : tie.Need-mul-y
-mul-y c = omega (arith, spanned (c .before .before .before) .step-y)
+mul-y c = let start = c .before .before .before in let a = start .args in omega (arith, in-reach (a .section) (a .parent) (a .number) (start .pre) .step-y)
 
-add-y-2 : tie.Need-add-y-2
-add-y-2 c = omega (arith, spanned (c .before .before .before .before) .to-y)
+add-y : tie.Need-add-y
+add-y c = let start = c .before .before .before .before in let a = start .args in omega (arith, in-reach (a .section) (a .parent) (a .number) (start .pre) .to-y)
 
 add-z : tie.Need-add-z
 add-z c = search needs
@@ -73,36 +39,27 @@ cast-z : tie.Need-cast-z
 cast-z c = search needs
 
 mul-z : tie.Need-mul-z
-mul-z c = omega (arith, spanned (c .before .before .before .before) .step-z)
+mul-z c = let start = c .before .before .before .before .before in let a = start .args in omega (arith, in-reach (a .section) (a .parent) (a .number) (start .pre) .step-z)
 
 add-z-2 : tie.Need-add-z-2
-add-z-2 c = omega (arith, spanned (c .before .before .before .before .before) .to-z)
+add-z-2 c = let start = c .before .before .before .before .before .before in let a = start .args in omega (arith, in-reach (a .section) (a .parent) (a .number) (start .pre) .to-z)
 
 returns : tie.Need-returns
-returns c =
-    let at-sides = c .before .before .before .before .before in
-    let at-side = at-sides .before .before in
-    let start = at-side .before .before in
-    let a = start .args in
-    below (a .parent) (a .number) (a .corner) (at-side .side .result) (at-sides .sides .result) (at-sides .before .child-row .result) (at-side .side .ensures)
-    (at-sides .before .child-row .ensures) (start .pre .0) (at-sides .sides .ensures)
+returns c = let start = c .before .before .before .before .before .before in let a = start .args in is-corner (a .section) (a .parent) (a .number) (start .pre)
 
 pub local-below-spec : {M : Type 1} → statement M
 local-below-spec =
     tie.close
     (tie.spec
-    add-side
-    side-requires
-    child-row-requires
-    sides-requires
-    add-x
-    cast-x
+    mul-digit
+    mul-digit-2
+    add-digit
+    cast-digit
+    shr-digit
     mul-x
-    add-x-2
-    add-y
-    cast-y
+    add-x
     mul-y
-    add-y-2
+    add-y
     add-z
     cast-z
     mul-z
