@@ -10,7 +10,7 @@ use common::random::Random;
 use common::sample::{run_file, Fields, Lines};
 use common::section::{Points, Section};
 use common::tally::Tally;
-use gwerniloc::{corner_point, Refusal, HIGHEST_LEVEL};
+use gwerniloc::{corner_point, Refusal, HIGHEST_LEVEL, MOST_LEAVES};
 
 /// All three agree, and so do the single calls. Gives how many points these were.
 fn ask(tally: &mut Tally, question: &Section) -> Result<usize, Refusal> {
@@ -121,6 +121,17 @@ fn a_hundred_thousand() {
     tally.covers("sections of 100,000", &[0, 5], 3 * WAYS);
 }
 
+/// "No upper limit": more positions than a list may have leaves.
+#[test]
+fn more_than_a_list_has() {
+    let (mut r, mut tally) = (Random(51), Tally::default());
+    let count = MOST_LEAVES + 1;
+    let mut question = r.section(0, HIGHEST_LEVEL, count);
+    assert_eq!(ask(&mut tally, &question), Ok(count));
+    question.positions[count - 1] = r.beyond(HIGHEST_LEVEL);
+    assert_eq!(ask(&mut tally, &question), refused(5, count - 1));
+}
+
 /// Every level and every corner number there is, for no position, a good one and a bad one, in a good root and a bad.
 #[test]
 fn every_level_and_corner_number() {
@@ -144,19 +155,23 @@ fn every_level_and_corner_number() {
     assert_eq!(tally.total(), 6 * 256 * 256);
 }
 
-/// Each of the four columns longer or shorter than the three others, with no other fault and with all.
+/// The lengths of the positions and of the three columns, each a choice of two lengths, but not all the same; or all
+/// four different.
+fn unequal(n: usize, k: usize) -> impl Iterator<Item = [usize; 4]> {
+    let choice = move |choice: usize| [0, 1, 2, 3].map(|column| if choice >> column & 1 == 1 { k } else { n });
+    (1..15).map(choice).chain([[n, k, n + k + 1, 2 * (n + k) + 2], [n + k + 1, 2 * (n + k) + 2, k, n]])
+}
+
+/// Columns of every choice of two lengths, and all four different, with no other fault and with all.
 #[test]
 fn columns_of_unequal_length() {
     let (mut r, mut tally) = (Random(45), Tally::default());
     for n in [0usize, 1, 2, 7, 8, 15, 16, 17, 33, 1_000] {
-        for odd in 0..4 {
-            let lengths = [n + 1, n + 16, 2 * n + 1, n.saturating_sub(1), n / 2, 0];
-            for length in lengths.into_iter().filter(|&length| length != n) {
-                let mut question = r.section(7, HIGHEST_LEVEL, n);
-                match odd {
-                    0 => question.positions.resize(length, 0),
-                    column => question.room[column - 1] = length,
-                }
+        let lengths = [n + 1, n + 16, 2 * n + 1, n.saturating_sub(1), n / 2, 0];
+        for length in lengths.into_iter().filter(|&length| length != n) {
+            for [positions, room @ ..] in unequal(n, length) {
+                let mut question = r.section(7, HIGHEST_LEVEL, positions);
+                question.room = room;
                 assert_eq!(ask(&mut tally, &question), refused(11, 0));
                 question.positions.fill(u64::MAX);
                 (question.level, question.corner) = (22, 6);
@@ -165,7 +180,7 @@ fn columns_of_unequal_length() {
             }
         }
     }
-    tally.covers("unequal columns", &[11], 2 * 4 * (3 + 9 * 6));
+    tally.covers("unequal columns", &[11], 2 * 16 * (3 + 9 * 6));
 }
 
 /// Two bad positions, at every two indexes, with all else good and with the later faults.

@@ -11,12 +11,13 @@ use Rattle.tree.specs.Laws.{Sound}
 use Rattle.tree.proofs.Anchor.{side-suc}
 use Rattle.rows.specs.Rows.{childRow}
 use Rattle.rows.proofs.Tables.{each-child}
+use Rattle.triangle.specs.Points.{Point}
 use Rattle.prism.specs.declared.Prism.{Prism}
 use Rattle.prism.specs.Elements.{prism, prismTo}
 use Rattle.prism.specs.Points as prisms
 use Rattle.corners.specs.declared.work.Local.{Local}
 use Rattle.corners.specs.declared.section.Section.{Section}
-use Rattle.corners.specs.Inner.{CornerRow, localOf, stepsTo, AtChild}
+use Rattle.corners.specs.Inner.{CornerRow, localOf, stepsTo, digitOf, AtChild}
 use Rattle.corners.proofs.LocalCorners.{room, corner-row, found}
 
 -- ---- the digits: child n of a parent of type t, its corner c
@@ -32,29 +33,46 @@ step : {t n c d : ℕ} (s : ℕ) → CornerRow (childRow t n .kind) c s → d / 
     → StepTo t n c d
 step s row x y few-x few-y = record { sides = s; its-sides = row; along-x = x; along-y = y; few-x = few-x; few-y = few-y }
 
-abbrev digit : ℕ → ℕ → ℕ → ℕ
-digit c t n = stepsTo c / 2 ^ (16 * t + 4 * n) % 16
-
-step-to : (c : ℕ) → c < 3 → (t n : ℕ) → t < 2 → n < 4 → StepTo t n c (digit c t n)
+step-to : (c : ℕ) → c < 3 → (t n : ℕ) → t < 2 → n < 4 → StepTo t n c (digitOf c t n)
 step-to zero few =
-    each-child (λ t n. StepTo t n 0 (digit 0 t n))
+    each-child (λ t n. StepTo t n 0 (digitOf 0 t n))
     (step 0 (corner-row 0 0 (lit< tt) (lit< tt)) refl refl (lit≤ tt) (lit≤ tt)) (step 0 (corner-row 0 0 (lit< tt) (lit< tt)) refl refl (lit≤ tt) (lit≤ tt))
     (step 0 (corner-row 1 0 (lit< tt) (lit< tt)) refl refl (lit≤ tt) (lit≤ tt)) (step 0 (corner-row 0 0 (lit< tt) (lit< tt)) refl refl (lit≤ tt) (lit≤ tt))
     (step 0 (corner-row 1 0 (lit< tt) (lit< tt)) refl refl (lit≤ tt) (lit≤ tt)) (step 0 (corner-row 0 0 (lit< tt) (lit< tt)) refl refl (lit≤ tt) (lit≤ tt))
     (step 0 (corner-row 1 0 (lit< tt) (lit< tt)) refl refl (lit≤ tt) (lit≤ tt)) (step 0 (corner-row 1 0 (lit< tt) (lit< tt)) refl refl (lit≤ tt) (lit≤ tt))
 step-to (suc zero) few =
-    each-child (λ t n. StepTo t n 1 (digit 1 t n))
+    each-child (λ t n. StepTo t n 1 (digitOf 1 t n))
     (step 2 (corner-row 0 1 (lit< tt) (lit< tt)) refl refl (lit≤ tt) (lit≤ tt)) (step 2 (corner-row 0 1 (lit< tt) (lit< tt)) refl refl (lit≤ tt) (lit≤ tt))
     (step 1 (corner-row 1 1 (lit< tt) (lit< tt)) refl refl (lit≤ tt) (lit≤ tt)) (step 2 (corner-row 0 1 (lit< tt) (lit< tt)) refl refl (lit≤ tt) (lit≤ tt))
     (step 1 (corner-row 1 1 (lit< tt) (lit< tt)) refl refl (lit≤ tt) (lit≤ tt)) (step 2 (corner-row 0 1 (lit< tt) (lit< tt)) refl refl (lit≤ tt) (lit≤ tt))
     (step 1 (corner-row 1 1 (lit< tt) (lit< tt)) refl refl (lit≤ tt) (lit≤ tt)) (step 1 (corner-row 1 1 (lit< tt) (lit< tt)) refl refl (lit≤ tt) (lit≤ tt))
 step-to (suc (suc zero)) few =
-    each-child (λ t n. StepTo t n 2 (digit 2 t n))
+    each-child (λ t n. StepTo t n 2 (digitOf 2 t n))
     (step 3 (corner-row 0 2 (lit< tt) (lit< tt)) refl refl (lit≤ tt) (lit≤ tt)) (step 3 (corner-row 0 2 (lit< tt) (lit< tt)) refl refl (lit≤ tt) (lit≤ tt))
     (step 3 (corner-row 1 2 (lit< tt) (lit< tt)) refl refl (lit≤ tt) (lit≤ tt)) (step 3 (corner-row 0 2 (lit< tt) (lit< tt)) refl refl (lit≤ tt) (lit≤ tt))
     (step 3 (corner-row 1 2 (lit< tt) (lit< tt)) refl refl (lit≤ tt) (lit≤ tt)) (step 3 (corner-row 0 2 (lit< tt) (lit< tt)) refl refl (lit≤ tt) (lit≤ tt))
     (step 3 (corner-row 1 2 (lit< tt) (lit< tt)) refl refl (lit≤ tt) (lit≤ tt)) (step 3 (corner-row 1 2 (lit< tt) (lit< tt)) refl refl (lit≤ tt) (lit≤ tt))
 step-to (suc (suc (suc c))) few = absurd (omega arith)
+
+-- eight digits are all
+pub whole-word : (c : ℕ) → stepsTo c % 2 ^ 32 ≡ stepsTo c
+whole-word zero = refl
+whole-word (suc zero) = refl
+whole-word (suc (suc c)) = refl
+
+-- what the code adds up is that digit: a corner of a triangle lies in one place
+one-place : {t c s u : ℕ} → CornerRow t c s → CornerRow t c u → (s / 2 ≡ u / 2) × (s % 2 ≡ u % 2)
+one-place {t} {c} {s} {u} a b =
+    let same = sym (a .placed 1 0 0) ∙ b .placed 1 0 0 in
+    let along-x : 0 + s / 2 * 1 ≡ 0 + u / 2 * 1 = ap (λ (p : Point). p .x) same in
+    let along-y : 0 + s % 2 * 1 ≡ 0 + u % 2 * 1 = ap (λ (p : Point). p .y) same in
+    (omega (arith, along-x), omega (arith, along-y))
+
+pub digit-is : (c t n s : ℕ) → c < 3 → t < 2 → n < 4 → CornerRow (childRow t n .kind) c s → 4 * (childRow t n .x + s / 2) + (childRow t n .y + s % 2) ≡ digitOf c t n
+digit-is c t n s few-c few-t few-n row =
+    let d = step-to c few-c t n few-t few-n in
+    let same = one-place row (d .its-sides) in
+    omega (arith, d .along-x, d .along-y, same .0, same .1)
 
 -- ---- within the edge
 pub record Spans (e : Prism) (h a b c : ℕ) : Type 0 where
@@ -109,16 +127,16 @@ module _ (s : Section) (e : Prism) (n : ℕ) (a : AtChild s e n) where
   pub two-types : e .kind < 2
   two-types = room e (a .sound) .two-types
 
-  digit-is : StepTo (e .kind) (n % 4) (s .corner % 3) d
-  digit-is =
+  steps-are : StepTo (e .kind) (n % 4) (s .corner % 3) d
+  steps-are =
       subst⁻¹ (λ (w : ℕ). StepTo (e .kind) (n % 4) (s .corner % 3) (w / 2 ^ (16 * e .kind + 4 * (n % 4)) % 16)) (a .whole .its-steps)
       (step-to (s .corner % 3) (mod-lt (s .corner) (lit< tt)) (e .kind) (n % 4) two-types (mod-lt n (lit< tt)))
 
   pub in-reach : Spans e (s .side) (d / 4) (d % 4) (n / 4 + s .corner / 3)
   in-reach =
-      spans e (s .side) (d / 4) (d % 4) (n / 4 + s .corner / 3) sized (a .sound) (a .above) (digit-is .few-x) (digit-is .few-y)
+      spans e (s .side) (d / 4) (d % 4) (n / 4 + s .corner / 3) sized (a .sound) (a .above) (steps-are .few-x) (steps-are .few-y)
       (omega (arith, a .child, a .whole .numbered))
 
   pub is-corner : _≡_ {A = Local} (record { x = e .x + d / 4 * s .side; y = e .y + d % 4 * s .side; z = e .z + (n / 4 + s .corner / 3) * s .side })
       (localOf (prisms.corner 21 (prism .child e n) (s .corner)))
-  is-corner = below e n (s .corner) (s .side) d sized digit-is
+  is-corner = below e n (s .corner) (s .side) d sized steps-are

@@ -7,6 +7,7 @@ pub mod Roots
 pub mod LocalCorners
 pub mod Call
 pub mod RootCorners
+pub mod Digits
 pub mod Children
 pub mod Parents
 pub mod Filling

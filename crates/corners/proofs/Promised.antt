@@ -24,8 +24,8 @@ use Rattle.corners.proofs.Offsets.{axis-bound}
 use Rattle.corners.proofs.Roots.{near-xs, near-ys, near-zs}
 use Rattle.corners.proofs.Call.{point-accepted, point-refused-24}
 use Rattle.corners.proofs.RootCorners.{at-0, at-1, at-2, at-3, at-4, at-5, whole}
-use Rattle.corners.proofs.SectionAccepted.{accepts-there, accepts-back, drawn}
-use Rattle.corners.proofs.SectionRefused.{place-there, place-back, as-single}
+use Rattle.corners.proofs.SectionAccepted.{accepts-there, accepts-back}
+use Rattle.corners.proofs.SectionRefused.{place-there, place-back, as-single, unequal-there, unequal-back}
 use Rattle.corners.proofs.Exact as values
 
 accepted-same : {A : Type 0} (a b : A) → _≡_ {A = Outcome A} (accepted a) (accepted b) → a ≡ b
@@ -139,9 +139,10 @@ promised =
       section =
           record {
             accepts = λ l ps i r m found. (accepts-there l ps i r m found, accepts-back l ps i r m found);
+            unequal = λ l ps i r m k. (unequal-there l ps i r m k, unequal-back l ps i r m k);
             place = λ l ps i r m k. (place-there l ps i r m k, λ h. place-back l ps i r m (h .0) k (h .1 .0) (h .1 .1));
-            as-single = λ l ps i r m number k long some. as-single l ps i r m long number k some;
-            left = drawn;
+            as-single = λ l ps i r m number k long h. as-single l ps i r m long number k h .0;
+            unplaced = λ l ps i r m number k long h. as-single l ps i r m long number k h .1;
           };
       exact = exact;
       bounded = record { small = small };

@@ -8,7 +8,8 @@
 --   blend           Q from the three
 --   Kept, keptAt    an element and its position; the element of level u at position p, with that position
 --   Tested          what the tests of the call over a column of positions have shown
---   stepsTo c       the word of the steps to corner c of a triangle's children; that they are the paper's is a law (`proofs/Children.antt`)
+--   stepsTo c       the steps to corner c of a triangle's children, a digit each; that they are the paper's is a law (`proofs/Children.antt`)
+--   digitOf c t n   that of child n of a parent of type t
 --   Whole s         the section s has the side of its level and the steps to its corner
 --   AtPosition      a position of the section's level, and its parent; in level 0 the root
 --   AtChild         a child of a parent that has children, one level above the section's
@@ -91,10 +92,14 @@ pub record Tested (l : ℕ) (ps : List ℕ) (i : ℕ) (r : Root) (m : PointColum
   pub numbered : i < CORNERS
   pub near : rootWithin r ≡ true
 
+-- in hexadecimal 51105440, 62519584, a665a995
 abbrev pub stepsTo : ℕ → ℕ
 stepsTo zero = 1360024640
 stepsTo (suc zero) = 1649513860
 stepsTo (suc (suc c)) = 2791680405
+
+abbrev pub digitOf : ℕ → ℕ → ℕ → ℕ
+digitOf c t n = stepsTo c / 2 ^ (16 * t + 4 * n) % 16
 
 pub record Whole (s : Section) : Type 0 where
   pub its-side : s .side ≡ side HIGHEST (s .level)

@@ -10,8 +10,8 @@
 --   Meaning          the corners of the root element are the root's own six; two corners with the same local (X, Y, Z) get the
 --                    same point, whatever their levels
 --   Answers          the level, position, corner number and root are in range, and the point a is as due
---   Promised         all of it, that of a whole section too (`SectionLaws.antt`); what is accepted: any root with numbers from -512 to 512, "flat or folded"; and the call accepts exactly in
---                    these ranges, with the point that is due and no other
+--   Promised         all of it, that of a whole section too (`SectionLaws.antt`); what is accepted: any root with numbers from -512 to 512,
+--                    "flat or folded"; and the single call accepts exactly in these ranges, with the point that is due and no other
 --
 -- Assumes nothing.
 use mathlib.Core.Path.{_≡_}

@@ -1,19 +1,22 @@
--- What is promised of the call over a column of positions, as statements; `proofs/SectionAccepted.antt` and `proofs/SectionRefused.antt` prove them. Definitions only.
+-- What is promised of the call over a column of positions, as statements; `proofs/SectionAccepted.antt` and `proofs/SectionRefused.antt` prove
+-- them. Definitions only.
 --
 --   Equal ps m         the four columns are of one length
 --   Passes l i r       "level, corner number and root corners pass"
---   past               what is read past the end of a list of points; no statement says anything of it
---   OneByOne           "The result equals the single calls one by one": as many points as positions, and point k is what the single call answers at
---                      position k
+--   past               what is read past the end of a list of points; no statement says anything of it, nor of the NaN in `entry`
+--   OneByOne           "The result equals the single calls one by one": as many points as positions, and point k is what the single call answers
+--                      at position k
 --   FirstBad l ps k    position k is not below 8^l, and all before it are
 --   entry m k          the point that stands in entry k of the columns m
 --   Drawn              entry k of the columns is what the single call answers at position k, and the columns have the positions' length
---   SectionLaws        accepts: the call accepts exactly when the columns are equal, the numbers pass and the single call accepts every position, and
+--   SectionLaws
+--     accepts          the call accepts exactly when the columns are of one length, the numbers pass and the single call accepts every position, and
 --                      with those points; "Empty columns are accepted once level, corner number and root corners pass" is the case of no position
---                      place: "the place of a 5 is the first bad index"
---                      as-single: "Checks run in the single call's order": any other refusal than that of the columns' lengths is the single call's,
---                      at the position that the place names, where there is a position
---                      left: what stands in the columns after an accepted call
+--     unequal          "columns of different lengths are refused first", and with place 0
+--     place            "the place of a 5 is the first bad index", whatever the corner number and the root are
+--     as-single        "Checks run in the single call's order": any refusal of columns of one length is the single call's at the position that the
+--                      place names, or at position 0, which every level has, where there is none
+--     unplaced         and its place is 0, but for a 5
 --
 -- Assumes nothing.
 use mathlib.Core.Path.{_≡_}
@@ -29,7 +32,7 @@ use Rattle.prism.specs.Elements.{CHILDREN, CORNERS}
 use Rattle.corners.specs.declared.Root.{Root}
 use Rattle.corners.specs.declared.Point.{Point}
 use Rattle.corners.specs.CornerPoints.{rootWithin, cornerPoint}
-use Rattle.corners.specs.Section.{PointColumns, cornerPoints, filled}
+use Rattle.corners.specs.Section.{PointColumns, cornerPoints}
 
 pub record Equal (ps : List ℕ) (m : PointColumns) : Type 0 where
   pub in-xs : length (m .xs) ≡ length ps
@@ -63,9 +66,11 @@ pub record Drawn (l : ℕ) (ps : List ℕ) (i : ℕ) (r : Root) (m : PointColumn
 pub record SectionLaws : Type 0 where
   pub accepts : (l : ℕ) (ps : List ℕ) (i : ℕ) (r : Root) (m : PointColumns) (found : List Point)
       → cornerPoints l ps i r m ≡ accepted found ↔ (Equal ps m × (Passes l i r × OneByOne l ps i r found))
+  pub unequal : (l : ℕ) (ps : List ℕ) (i : ℕ) (r : Root) (m : PointColumns) (k : ℕ)
+      → cornerPoints l ps i r m ≡ refused 11 k ↔ ((Equal ps m → ⊥) × (k ≡ 0))
   pub place : (l : ℕ) (ps : List ℕ) (i : ℕ) (r : Root) (m : PointColumns) (k : ℕ)
       → cornerPoints l ps i r m ≡ refused 5 k ↔ (Equal ps m × ((l ≤ HIGHEST) × FirstBad l ps k))
-  pub as-single : (l : ℕ) (ps : List ℕ) (i : ℕ) (r : Root) (m : PointColumns) (number k : ℕ) → Equal ps m → 0 < length ps
-      → cornerPoints l ps i r m ≡ refused number k → (k < length ps) × (cornerPoint l (getD ps k 0) i r ≡ refused number 0)
-  pub left : (l : ℕ) (ps : List ℕ) (i : ℕ) (r : Root) (m : PointColumns) (found : List Point)
-      → cornerPoints l ps i r m ≡ accepted found → Drawn l ps i r (filled found m)
+  pub as-single : (l : ℕ) (ps : List ℕ) (i : ℕ) (r : Root) (m : PointColumns) (number k : ℕ) → Equal ps m
+      → cornerPoints l ps i r m ≡ refused number k → cornerPoint l (getD ps k 0) i r ≡ refused number 0
+  pub unplaced : (l : ℕ) (ps : List ℕ) (i : ℕ) (r : Root) (m : PointColumns) (number k : ℕ) → Equal ps m
+      → cornerPoints l ps i r m ≡ refused number k → (number ≡ 5 → ⊥) → k ≡ 0

@@ -16,9 +16,9 @@ ghost use Rattle.triangle.specs.Elements as triangles;
 ghost use Rattle.prism.specs.Elements.{CHILDREN, prism};
 ghost use Rattle.prism.specs.Points as prisms;
 ghost use Rattle.corners.specs.Section.{pointColumns, points, filled};
-ghost use Rattle.corners.specs.Inner.{localOf, keptAt, Tested, stepsTo, AtPosition, AtChild};
+ghost use Rattle.corners.specs.Inner.{localOf, keptAt, Tested, stepsTo, digitOf, AtPosition, AtChild};
 
-// What all positions share: the level, its side, the corner number, and the steps to that corner.
+// What all positions share: the level, its side, the corner number, and the steps to that corner of each child.
 struct Section {
     level: u8,
     side: u32,
@@ -79,20 +79,31 @@ pub(crate) fn fill(
     }
 }
 
-// How far a corner of each child lies from the parent's anchor, in sides of the child. A hexadecimal digit for each, those of type 1 before
-// those of type 0, and from child 3 down to child 0; of its four bits the upper two are x, the lower y. A word, since a table would be copied at
-// each read.
+// How far a corner of each child lies from the parent's anchor: a hexadecimal digit for each, those of a parent of type 0 lowest, and of
+// these child 0. The tables are read once a section, since each read copies them.
 fn steps(corner: u8) -> u32
     ensures { λ r. ⌜ r ≡ stepsTo (corner % triangles.CORNERS) ⌝ }
 {
-    let number = corner % Triangle::CORNERS;
-    if number == 0 {
-        return 0x5110_5440;
+    let mut word = 0;
+    let mut i = 0u8;
+    while i < 8 {
+        word += step(i / 4, i % 4, corner) << (4 * i);
+        i += 1;
     }
-    if number == 1 {
-        return 0x6251_9584;
-    }
-    0xa665_a995
+    word
+}
+
+// The child's step from the parent's anchor and the corner's from its own, both in sides of the child: of four bits the upper two are x, the lower
+// two y.
+fn step(kind: u8, number: u8, corner: u8) -> u32
+    requires { ⌜ (kind < 2) × (number < 4) ⌝ }
+    ensures { λ r. ⌜ r ≡ digitOf (corner % triangles.CORNERS) kind number ⌝ }
+{
+    let row = rows::child_row(kind, number);
+    let s = work::sides(row.kind, corner % Triangle::CORNERS);
+    let x = row.x + s / 2;
+    let y = row.y + s % 2;
+    (4 * x + y) as u32
 }
 
 // The level of the parents; level 0 has none, and stays.

@@ -1,4 +1,4 @@
-// What the call does: its last test, the corner within the root, and one coordinate at a time. Each function asks for just what
+// What the calls do: the last test, the corner within the root, and one coordinate at a time. Each function asks for just what
 // the tests before it have shown.
 use crate::Point;
 use crate::Root;
@@ -123,7 +123,7 @@ impl Root {
 // branch would wait for the type, which is known last.
 const CORNER: [[u8; 3]; 2] = [[0b0_0, 0b1_0, 0b1_1], [0b0_0, 0b0_1, 0b1_1]];
 
-fn sides(kind: u8, number: u8) -> u8
+pub(crate) fn sides(kind: u8, number: u8) -> u8
     requires { ⌜ (kind < 2) × (number < triangles.CORNERS) ⌝ }
     ensures { λ r. ⌜ CornerRow kind number r ⌝ }
 {

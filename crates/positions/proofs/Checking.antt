@@ -5,7 +5,7 @@ use Prim.Native.Nat.{ℕ, _+_, _^_, _≤_, _<_}
 use native.Mathlib.Nat.{le-trans}
 use native.Mathlib.Decide.{ℕ-discrete}
 use native.Mathlib.Omega.{arith}
-use lib.Bits.{bitOr, bitAnd, or-add-and, and-le-l, and-le-r}
+use lib.Bits.{bitOr, or-add-and, and-le-l, and-le-r}
 use lib.Dec.{leb}
 use lib.ListN.{length, getD, drop}
 use borrow.Author.Tests.{lt-ltb, le-ltb, lt-leb, le-leb, leb-false}

@@ -1,4 +1,5 @@
--- A column of positions of prisms, all at one level: which of them the level has not. Definitions only.
+-- Document 02, ticket 1: a column of positions of prisms, "at one level". Which of them the level has not; "the place of a 5 is the first bad
+-- index". Definitions only.
 --
 --   positionFault l p    5 for a position p that the level l has not
 --   checkPositions l ps  the check of a column: 1 for the level, then each position in turn, place = its index

@@ -32,10 +32,10 @@ fn merged(positions: &[u64]) -> u64
     ensures { λ r. ⌜ ((j : ℕ) → j < length (now (positions .entry)) → getD (now (positions .entry)) j 0 ≤ r) ⌝ }
 {
     let mut bits = 0;
-    let mut i = 0;
-    while i < positions.len() {
-        bits = bits | positions[i];
-        i += 1;
+    let mut at = 0;
+    while at < positions.len() {
+        bits = bits | positions[at];
+        at += 1;
     }
     bits
 }

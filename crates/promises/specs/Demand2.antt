@@ -12,8 +12,8 @@
 --                 leaves stand along the curve; a leaf's relatives are the prism's; adaption is the paper's one pass, boundaries are the paper's
 --   OfFiles       of grid files: "a list has one file and a file one list", and writing and reading undo each other
 --   Demand2       all of it, with corner points (the exact value and no other, the bound, the root's own corners, one point for one local corner, a
---                 whole section as the single calls one by one) and orders (when one is accepted, the first 71 bytes decide, its fields are repeated, its shares are the list's own, its
---                 numbers read back, its output has room)
+--                 whole section as the single calls one by one) and orders (when one is accepted, the first 71 bytes decide, its fields are
+--                 repeated, its shares are the list's own, its numbers read back, its output has room)
 --
 -- Assumes nothing.
 use mathlib.Core.Bool.{Bool}

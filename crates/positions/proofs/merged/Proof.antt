@@ -1,4 +1,4 @@
--- `merged` meets its contract: none of the positions before i passes the bits. Assumes nothing.
+-- `merged` meets its contract: none of the positions before passes the bits. Assumes nothing.
 use Prim.Native.Nat.{ℕ, _-_, _≤_, _<_}
 use native.Mathlib.Omega.{arith}
 use lib.ListN.{length, getD}
@@ -7,10 +7,10 @@ use Rattle.positions.proofs.merged.Statement.{statement}
 use Rattle.positions.proofs.merged.Tie as tie
 
 abbrev Inv-loop : tie.InvT-loop
-Inv-loop positions bits₀ i₀ bits i = (i ≤ length positions) × ((j : ℕ) → j < i → getD positions j 0 ≤ bits)
+Inv-loop positions bits₀ at₀ bits at = (at ≤ length positions) × ((j : ℕ) → j < at → getD positions j 0 ≤ bits)
 
 abbrev μ-loop : tie.MeasureT-loop
-μ-loop positions bits₀ i₀ bits i = length positions - i
+μ-loop positions bits₀ at₀ bits at = length positions - at
 
 loop-holds : tie.Need-loop-holds Inv-loop μ-loop
 loop-holds c = (omega arith, λ j before. absurd (omega arith))
@@ -21,8 +21,8 @@ mul-bits c = omega arith
 shared-slice-read-bits : tie.Need-shared-slice-read-bits Inv-loop μ-loop
 shared-slice-read-bits c = omega arith
 
-add-i : tie.Need-add-i Inv-loop μ-loop
-add-i c = omega arith
+add-at : tie.Need-add-at Inv-loop μ-loop
+add-at c = omega arith
 
 loop-less : tie.Need-loop-less Inv-loop μ-loop
 loop-less c = omega arith
@@ -30,7 +30,7 @@ loop-less c = omega arith
 loop-again : tie.Need-loop-again Inv-loop μ-loop
 loop-again c =
     let now-at = c .before .before .loop in
-    (omega arith, merged-next (c .before .before .before .args .positions .now) (now-at .bits) (now-at .i) (now-at .inv .1))
+    (omega arith, merged-next (c .before .before .before .args .positions .now) (now-at .bits) (now-at .at) (now-at .inv .1))
 
 returns : tie.Need-returns Inv-loop μ-loop
 returns c = λ j inside. c .before .loop .inv .1 j (omega (arith, c .loop-test .left))
@@ -44,7 +44,7 @@ merged-spec =
     loop-holds
     mul-bits
     shared-slice-read-bits
-    add-i
+    add-at
     loop-less
     loop-again
     returns)

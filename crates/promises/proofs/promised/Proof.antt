@@ -1,6 +1,6 @@
 -- `promised` meets its contract: each demand has its proof. Assumes nothing.
 use Rattle.promises.proofs.Demand1.{of-calls}
-use Rattle.promises.proofs.OverC.{over-c, lists-over-c}
+use Rattle.promises.proofs.OverC.{over-c}
 use Rattle.promises.proofs.Demand2.{demand-2}
 use Rattle.promises.proofs.Demand3.{of-grids}
 use Rattle.promises.proofs.InMemory.{in-memory, in-memory-over-c}

@@ -1,5 +1,4 @@
 -- `equal_lengths` meets its contract: one comparison after the other. Assumes nothing.
-use borrow.Author.Needs.{needs}
 use borrow.Author.Tests.{ne-eqb, eq-eqb}
 use Rattle.corners.proofs.section.equal_lengths.Statement.{statement}
 use Rattle.corners.proofs.section.equal_lengths.Tie as tie

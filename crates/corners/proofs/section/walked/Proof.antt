@@ -2,7 +2,6 @@
 use mathlib.Core.Path.{ap}
 use borrow.Author.Needs.{needs}
 use Rattle.prism.specs.declared.Prism.{Prism}
-use Rattle.corners.specs.declared.section.Kept.{Kept}
 use Rattle.corners.proofs.Call.{element-is, element-never}
 use Rattle.corners.proofs.section.walked.Statement.{statement}
 use Rattle.corners.proofs.section.walked.Tie as tie
