@@ -12,15 +12,25 @@ use common::section::{Points, Section};
 use common::tally::Tally;
 use gwerniloc::{corner_point, Refusal, HIGHEST_LEVEL, MOST_LEAVES};
 
-/// All three agree, and so do the single calls. Gives how many points these were.
+/// All three agree, and so do the single calls: at each position of an accepted section, and with the number of a refusal
+/// but 11 where its place is, or at position 0 where there is none. Gives how many points these were.
 fn ask(tally: &mut Tally, question: &Section) -> Result<usize, Refusal> {
-    let [x, y, z] = tally.count(question.ask(strange), question)?;
+    let answer = tally.count(question.ask(strange), question);
     let Section { level, corner, root, .. } = *question;
-    for (i, &position) in question.positions.iter().enumerate() {
-        let single = corner_point(level, position, corner, root).map(bits);
-        assert_eq!(single, Ok([x[i], y[i], z[i]]), "index {i}: level {level} position {position} {corner} {root:?}");
+    let single = |position| corner_point(level, position, corner, root).map(bits);
+    match &answer {
+        Ok([x, y, z]) => {
+            for (i, &position) in question.positions.iter().enumerate() {
+                assert_eq!(single(position), Ok([x[i], y[i], z[i]]), "index {i}: {level} {position} {corner} {root:?}");
+            }
+        }
+        Err(Refusal { number: 11, .. }) => {}
+        Err(Refusal { number, place }) => {
+            let position = question.positions.get(*place as usize).copied().unwrap_or(0);
+            assert_eq!(single(position), Err(Refusal { number: *number, place: 0 }), "{question:?}");
+        }
     }
-    Ok(x.len())
+    answer.map(|[x, ..]| x.len())
 }
 
 /// The refusal with a number, at a place.
@@ -121,7 +131,7 @@ fn a_hundred_thousand() {
     tally.covers("sections of 100,000", &[0, 5], 3 * WAYS);
 }
 
-/// "No upper limit": more positions than a list may have leaves.
+/// There is no upper limit: more positions than a list may have leaves.
 #[test]
 fn more_than_a_list_has() {
     let (mut r, mut tally) = (Random(51), Tally::default());

@@ -1,5 +1,5 @@
--- The call over a column of positions refuses by 5 at the first bad index, and by any other number but 11 as the single call does there. Assumes
--- nothing.
+-- The call over a column of positions refuses by 11 exactly where the columns are not of one length, by 5 at the first bad index, and by any other
+-- number as the single call does, with place 0. Assumes nothing.
 use mathlib.Core.Path.{_≡_, refl, sym, ap, _∙_, subst, subst⁻¹}
 use mathlib.Core.Logic.{⊎-elim}
 use mathlib.Core.Bool.{Bool, true, false, not}

@@ -6,8 +6,8 @@
 --   points l ps i r   "The result equals the single calls one by one": the point of corner i at each of the positions ps
 --   cornerPoints      the call: "columns of different lengths are refused first", then "Checks run in the single call's order", 1, 5, 8, 24; "the
 --                     place of a 5 is the first bad index. Every position is checked before the corner number"
---   filled found m    the columns m with the points found: "a refusal anywhere writes nothing", an accepted call fills the three to their end
---   SectionFilled     the contract of the call: it answers nothing beyond the points that it writes
+--   filled found m    the columns m with the points found: an accepted call fills the three to their end
+--   SectionFilled     the contract of the call: it answers nothing beyond the points that it writes; "a refusal anywhere writes nothing"
 --
 -- Not here: the single call (`CornerPoints.antt`), that the two agree (`SectionLaws.antt`). Assumes nothing.
 use mathlib.Core.Bool.{Bool, not, _&&_}

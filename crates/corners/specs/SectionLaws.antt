@@ -8,14 +8,15 @@
 --                      at position k
 --   FirstBad l ps k    position k is not below 8^l, and all before it are
 --   entry m k          the point that stands in entry k of the columns m
---   Drawn              entry k of the columns is what the single call answers at position k, and the columns have the positions' length
+--   Drawn              entry k of the columns is what the single call answers at position k, and the columns have the positions' length: promised of an
+--                      accepted call in `promises/specs/InMemory.antt`
 --   SectionLaws
 --     accepts          the call accepts exactly when the columns are of one length, the numbers pass and the single call accepts every position, and
 --                      with those points; "Empty columns are accepted once level, corner number and root corners pass" is the case of no position
 --     unequal          "columns of different lengths are refused first", and with place 0
 --     place            "the place of a 5 is the first bad index", whatever the corner number and the root are
---     as-single        "Checks run in the single call's order": any refusal of columns of one length is the single call's at the position that the
---                      place names, or at position 0, which every level has, where there is none
+--     as-single        "Checks run in the single call's order": the number of any refusal of columns of one length is the single call's at the
+--                      position that the place names, or, where there is none, at the position 0 itself, which every level has
 --     unplaced         and its place is 0, but for a 5
 --
 -- Assumes nothing.

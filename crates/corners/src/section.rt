@@ -79,8 +79,9 @@ pub(crate) fn fill(
     }
 }
 
-// How far a corner of each child lies from the parent's anchor: a hexadecimal digit for each, those of a parent of type 0 lowest, and of
-// these child 0. The tables are read once a section, since each read copies them.
+// How far a corner of each of a triangle's four children lies from the parent's anchor, for a parent of either type: a hexadecimal digit for each,
+// those of a parent of type 0 lowest, and of these child 0. Both tables are read here, for the whole section, and not at each point: each read
+// copies them.
 fn steps(corner: u8) -> u32
     ensures { λ r. ⌜ r ≡ stepsTo (corner % triangles.CORNERS) ⌝ }
 {
@@ -93,8 +94,8 @@ fn steps(corner: u8) -> u32
     word
 }
 
-// The child's step from the parent's anchor and the corner's from its own, both in sides of the child: of four bits the upper two are x, the lower
-// two y.
+// Of the child with a number, of a parent of a type: its step from the parent's anchor and the corner's from its own, both in sides of the child.
+// Of four bits the upper two are x, the lower two y.
 fn step(kind: u8, number: u8, corner: u8) -> u32
     requires { ⌜ (kind < 2) × (number < 4) ⌝ }
     ensures { λ r. ⌜ r ≡ digitOf (corner % triangles.CORNERS) kind number ⌝ }

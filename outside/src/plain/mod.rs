@@ -1,4 +1,5 @@
-//! The calls once more, as a C programmer would write them: constant tables, a loop over the levels, one over a list.
+//! The calls once more, as a C programmer would write them: constant tables, a loop over the levels, one over a list; and
+//! for a section a second way, without a loop over the levels.
 //!
 //! Written from the rules alone and not from the proved source, so that the tests hear a second opinion. The calls
 //! take and return what the C interface does, by the same convention, so that the benchmark compares like with like.

@@ -57,7 +57,7 @@ impl Section {
         Section { level, positions, corner, root, room }
     }
 
-    /// The two ways of the plain code agree.
+    /// The answers of the proved library, of the plain code, whose two ways agree, and of the ticket.
     pub fn ask(&self, filling: Filling) -> Answers<Points> {
         let plain = self.points(at_once, filling);
         assert_eq!(self.points(walking, filling), plain, "the two ways of the plain code: {self:?}");
