@@ -6,6 +6,7 @@ use Prim.Native.Nat.{ℕ, _^_, _≤_, _<_}
 use native.Mathlib.Omega.{arith}
 use borrow.Author.Tests.{lt-ltb, le-ltb, lt-leb, le-leb}
 use Rattle.paper.specs.Outcome.{accepted, refused}
+use Rattle.paper.proofs.Scan.{accepted-same}
 use Rattle.tree.specs.Laws.{Sound}
 use Rattle.tree.specs.Words.{elementAt}
 use Rattle.tree.specs.Calls
@@ -49,10 +50,7 @@ module _ (l p : ℕ) (shallow : l ≤ 21) (below : p < 8 ^ l) where
   accepts = at-accepted prism l p shallow below
 
   pub element-is : (a : PrismAnswer) (e : Prism) → a ≡ Is e → prismOf a ≡ Calls.at prism l p → e ≡ elementAt prism l p
-  element-is a e taken found = same (sym (ap prismOf taken) ∙ found ∙ accepts)
-    where
-      same : {x y : Prism} → accepted x ≡ accepted y → x ≡ y
-      same h = cc
+  element-is a e taken found = accepted-same e (elementAt prism l p) (sym (ap prismOf taken) ∙ found ∙ accepts)
 
   pub element-never : {A : Type 0} (a : PrismAnswer) (number place : ℕ) → a ≡ Refused number place → prismOf a ≡ Calls.at prism l p → A
   element-never a number place taken found = absurd (never (sym (ap prismOf taken) ∙ found ∙ accepts))

@@ -2,12 +2,11 @@
 -- its own, stay within the parent's side; a digit has both. Assumes nothing.
 use mathlib.Core.Path.{_≡_, refl, sym, ap, _∙_, subst⁻¹}
 use Prim.Native.Nat.{ℕ, zero, suc, _+_, _*_, _/_, _%_, _^_, _≤_, _<_}
-use native.Mathlib.Nat.{add-mul, mod-lt, mul-le-mul-right}
+use native.Mathlib.Nat.{add-mul, mod-lt}
 use native.Mathlib.Numerals.{add-one}
 use native.Mathlib.Omega.{arith}
 use lib.Dec.{lit<, lit≤}
 use Rattle.tree.specs.Anchors.{side}
-use Rattle.tree.specs.Laws.{Sound}
 use Rattle.tree.proofs.Anchor.{side-suc}
 use Rattle.rows.specs.Rows.{childRow}
 use Rattle.rows.proofs.Tables.{each-child}
@@ -18,7 +17,7 @@ use Rattle.prism.specs.Points as prisms
 use Rattle.corners.specs.declared.work.Local.{Local}
 use Rattle.corners.specs.declared.section.Section.{Section}
 use Rattle.corners.specs.Inner.{CornerRow, localOf, stepsTo, digitOf, AtChild}
-use Rattle.corners.proofs.LocalCorners.{room, corner-row, found}
+use Rattle.corners.proofs.LocalCorners.{room, Spans, spans, corner-row, found}
 
 -- ---- the digits: child n of a parent of type t, its corner c
 record StepTo (t n c d : ℕ) : Type 0 where
@@ -74,28 +73,6 @@ digit-is c t n s few-c few-t few-n row =
     let same = one-place row (d .its-sides) in
     omega (arith, d .along-x, d .along-y, same .0, same .1)
 
--- ---- within the edge
-pub record Spans (e : Prism) (h a b c : ℕ) : Type 0 where
-  pub step-x : a * h ≤ 2 ^ 21
-  pub step-y : b * h ≤ 2 ^ 21
-  pub step-z : c * h ≤ 2 ^ 21
-  pub to-x : e .x + a * h ≤ 2 ^ 21
-  pub to-y : e .y + b * h ≤ 2 ^ 21
-  pub to-z : e .z + c * h ≤ 2 ^ 21
-
-two-sides : (n h a : ℕ) → n ≤ 2 → a + 2 * h ≤ 2 ^ 21 → a + n * h ≤ 2 ^ 21
-two-sides n h a few inside = omega (arith, mul-le-mul-right h few)
-
-spans : (e : Prism) (h a b c : ℕ) → h ≡ side 21 (e .level + 1) → Sound prism e → e .level < 21 → a ≤ 2 → b ≤ 2 → c ≤ 2 → Spans e h a b c
-spans e h a b c same sound above few-a few-b few-c =
-    let r = room e sound in
-    let whole : side 21 (e .level) ≡ 2 * h =
-    side-suc 21 (e .level) above ∙ ap (λ (k : ℕ). 2 * side 21 k) (sym (add-one (e .level))) ∙ ap (λ (k : ℕ). 2 * k) (sym same) in
-    let far-x = two-sides a h (e .x) few-a (omega (arith, r .room-x)) in
-    let far-y = two-sides b h (e .y) few-b (omega (arith, r .room-x, r .below)) in
-    let far-z = two-sides c h (e .z) few-c (omega (arith, r .room-z)) in
-    record { step-x = omega arith; step-y = omega arith; step-z = omega arith; to-x = far-x; to-y = far-y; to-z = far-z }
-
 -- ---- the corner
 shared : (x a b d h : ℕ) → d ≡ a + b → x + d * h ≡ x + a * h + b * h
 shared x a b d h is = ap (λ (k : ℕ). x + k * h) is ∙ omega (arith, add-mul a b h)
@@ -132,9 +109,13 @@ module _ (s : Section) (e : Prism) (n : ℕ) (a : AtChild s e n) where
       subst⁻¹ (λ (w : ℕ). StepTo (e .kind) (n % 4) (s .corner % 3) (w / 2 ^ (16 * e .kind + 4 * (n % 4)) % 16)) (a .whole .its-steps)
       (step-to (s .corner % 3) (mod-lt (s .corner) (lit< tt)) (e .kind) (n % 4) two-types (mod-lt n (lit< tt)))
 
+  -- two sides are one of the parent's
+  doubled : 2 * s .side ≡ side 21 (e .level)
+  doubled = ap (λ (h : ℕ). 2 * h) (sized ∙ ap (side 21) (add-one (e .level))) ∙ sym (side-suc 21 (e .level) (a .above))
+
   pub in-reach : Spans e (s .side) (d / 4) (d % 4) (n / 4 + s .corner / 3)
   in-reach =
-      spans e (s .side) (d / 4) (d % 4) (n / 4 + s .corner / 3) sized (a .sound) (a .above) (steps-are .few-x) (steps-are .few-y)
+      spans e 2 (s .side) (d / 4) (d % 4) (n / 4 + s .corner / 3) doubled (a .sound) (steps-are .few-x) (steps-are .few-y)
       (omega (arith, a .child, a .whole .numbered))
 
   pub is-corner : _≡_ {A = Local} (record { x = e .x + d / 4 * s .side; y = e .y + d % 4 * s .side; z = e .z + (n / 4 + s .corner / 3) * s .side })

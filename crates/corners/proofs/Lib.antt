@@ -13,6 +13,7 @@ pub mod Parents
 pub mod Filling
 pub mod SectionCall
 pub mod SectionAccepted
+pub mod SectionPlaces
 pub mod SectionRefused
 pub mod Promised
 pub mod Controls

@@ -42,24 +42,25 @@ room e sound =
 pub room-at : (e : Prism) (h : ℕ) → h ≡ side 21 (e .level) → Sound prism e → Room e h
 room-at e h same sound = subst⁻¹ (Room e) same (room e sound)
 
--- none or one side further, in each coordinate: still within the edge
-pub record Reaches (e : Prism) (h s i : ℕ) : Type 0 where
-  pub step-x : s / 2 * h ≤ 2 ^ 21
-  pub step-y : s % 2 * h ≤ 2 ^ 21
-  pub step-z : i / 3 * h ≤ 2 ^ 21
-  pub to-x : e .x + s / 2 * h ≤ 2 ^ 21
-  pub to-y : e .y + s % 2 * h ≤ 2 ^ 21
-  pub to-z : e .z + i / 3 * h ≤ 2 ^ 21
+-- so many sides further, a, b and c: still within the edge
+pub record Spans (e : Prism) (h a b c : ℕ) : Type 0 where
+  pub step-x : a * h ≤ 2 ^ 21
+  pub step-y : b * h ≤ 2 ^ 21
+  pub step-z : c * h ≤ 2 ^ 21
+  pub to-x : e .x + a * h ≤ 2 ^ 21
+  pub to-y : e .y + b * h ≤ 2 ^ 21
+  pub to-z : e .z + c * h ≤ 2 ^ 21
 
-one-side : (n h a : ℕ) → n ≤ 1 → a + h ≤ 2 ^ 21 → a + n * h ≤ 2 ^ 21
-one-side n h a once inside = omega (arith, mul-le-mul-right h once)
+-- up to k sides, where k of them are the element's own
+few-sides : (k n h a : ℕ) → n ≤ k → a + k * h ≤ 2 ^ 21 → a + n * h ≤ 2 ^ 21
+few-sides k n h a few inside = omega (arith, mul-le-mul-right h few)
 
-pub reaches : (e : Prism) (h s i : ℕ) → h ≡ side 21 (e .level) → s ≤ 3 → Sound prism e → i < 6 → Reaches e h s i
-reaches e h s i same narrow sound small =
-    let r = room-at e h same sound in
-    let far-x = one-side (s / 2) h (e .x) (omega arith) (r .room-x) in
-    let far-y = one-side (s % 2) h (e .y) (omega arith) (omega (arith, r .room-x, r .below)) in
-    let far-z = one-side (i / 3) h (e .z) (omega arith) (r .room-z) in
+pub spans : (e : Prism) (k h a b c : ℕ) → k * h ≡ side 21 (e .level) → Sound prism e → a ≤ k → b ≤ k → c ≤ k → Spans e h a b c
+spans e k h a b c whole sound few-a few-b few-c =
+    let r = room-at e (k * h) whole sound in
+    let far-x = few-sides k a h (e .x) few-a (r .room-x) in
+    let far-y = few-sides k b h (e .y) few-b (omega (arith, r .room-x, r .below)) in
+    let far-z = few-sides k c h (e .z) few-c (r .room-z) in
     record { step-x = omega arith; step-y = omega arith; step-z = omega arith; to-x = far-x; to-y = far-y; to-z = far-z }
 
 -- ---- the corner of a triangle by type and number

@@ -6,8 +6,8 @@ use native.Mathlib.Omega.{arith}
 use lib.Dec.{lit<, lit≤, ltb, leb}
 use borrow.Author.Tests.{ltb-false, leb-false, not-false}
 use lib.IntN.{ℤ, pos, _*ℤ_}
-use Rattle.paper.specs.Outcome.{Outcome, accepted, refused}
-use Rattle.paper.proofs.Scan.{accepted-of}
+use Rattle.paper.specs.Outcome.{accepted}
+use Rattle.paper.proofs.Scan.{accepted-same, accepted-of}
 use Rattle.tree.proofs.RoundTrip.{at-sound}
 use Rattle.prism.proofs.Laws.{lawful}
 use Rattle.prism.proofs.Inside.{corner-in-root}
@@ -25,15 +25,9 @@ use Rattle.corners.proofs.Roots.{near-xs, near-ys, near-zs}
 use Rattle.corners.proofs.Call.{point-accepted, point-refused-24}
 use Rattle.corners.proofs.RootCorners.{at-0, at-1, at-2, at-3, at-4, at-5, whole}
 use Rattle.corners.proofs.SectionAccepted.{accepts-there, accepts-back}
-use Rattle.corners.proofs.SectionRefused.{place-there, place-back, as-single, unequal-there, unequal-back}
+use Rattle.corners.proofs.SectionPlaces.{place-there, place-back}
+use Rattle.corners.proofs.SectionRefused.{as-single, unequal-there, unequal-back}
 use Rattle.corners.proofs.Exact as values
-
-accepted-same : {A : Type 0} (a b : A) → _≡_ {A = Outcome A} (accepted a) (accepted b) → a ≡ b
-accepted-same {A} a b e = ap value e
-  where
-    value : Outcome A → A
-    value (accepted x) = x
-    value (refused number place) = a
 
 exact : Exact
 exact =

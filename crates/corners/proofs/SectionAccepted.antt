@@ -10,10 +10,10 @@ use lib.ListN.{length, getD, drop, length-map, List·getD-append}
 use lib.Seq.{ext-getD}
 use lib.Ieee.{Float, nan}
 use borrow.Author.Tests.{ltb-false, leb-false, eq-eqb, not-false}
-use Rattle.paper.specs.Outcome.{Outcome, accepted}
+use Rattle.paper.specs.Outcome.{accepted}
 use Rattle.paper.specs.Memory.{written}
 use Rattle.paper.proofs.Front.{written-length}
-use Rattle.paper.proofs.Scan.{accepted-of, scan-accepted}
+use Rattle.paper.proofs.Scan.{accepted-same, accepted-of, scan-accepted}
 use Rattle.tree.specs.Words.{elementAt}
 use Rattle.prism.specs.Elements.{prism}
 use Rattle.prism.specs.Points as prisms
@@ -28,9 +28,6 @@ use Rattle.corners.specs.Inner.{Tested}
 use Rattle.corners.proofs.Call.{point-accepted}
 use Rattle.corners.proofs.Filling.{equal}
 use Rattle.corners.proofs.SectionCall.{section-accepted}
-
-pub same-value : {A : Type 0} (a b : A) → _≡_ {A = Outcome A} (accepted a) (accepted b) → a ≡ b
-same-value a b e = cc
 
 -- an entry of a list under a map; what would stand past the ends is never read
 map-at : {A B : Type 0} (f : A → B) (es : List A) (k : ℕ) (a : A) (b : B) → k < length es → getD (map f es) k b ≡ f (getD es k a)
@@ -69,7 +66,7 @@ module _ (l : ℕ) (ps : List ℕ) (i : ℕ) (r : Root) (m : PointColumns) where
               numbered = leb-false 6 i (number .0);
               near = not-false _ (root .0);
             };
-        are = sym (same-value _ _ (root .1));
+        are = sym (accepted-same _ _ (root .1));
       }
 
   -- a point by its index
@@ -108,7 +105,7 @@ module _ (l : ℕ) (ps : List ℕ) (i : ℕ) (r : Root) (m : PointColumns) where
       λ k less.
       let inside : k < length ps = subst (λ (n : ℕ). k < n) (length-map ps _) less in
       at-index k inside
-      ∙ same-value _ _ (sym (point-accepted l (getD ps k 0) i r (passes .shallow) (below k inside) (passes .numbered) (passes .near)) ∙ each .single k inside) in
+      ∙ accepted-same _ _ (sym (point-accepted l (getD ps k 0) i r (passes .shallow) (below k inside) (passes .numbered) (passes .near)) ∙ each .single k inside) in
       section-accepted l ps i r m t ∙ ap accepted (ext-getD past (points l ps i r) found (length-map ps _ ∙ sym (each .as-many)) entries)
 
   -- ---- what is left in the columns

@@ -1,5 +1,5 @@
--- The call over a column of positions refuses by 11 exactly where the columns are not of one length, by 5 at the first bad index, and by any other
--- number as the single call does, with place 0. Assumes nothing.
+-- The call over a column of positions refuses by 11 exactly where the columns are not of one length, and by any other number as the single call
+-- does, with place 0 but for a 5. Assumes nothing.
 use mathlib.Core.Path.{_≡_, refl, sym, ap, _∙_, subst, subst⁻¹}
 use mathlib.Core.Logic.{⊎-elim}
 use mathlib.Core.Bool.{Bool, true, false, not}
@@ -9,11 +9,11 @@ use native.Mathlib.Nat.{zero-add}
 use native.Mathlib.Omega.{arith}
 use lib.Dec.{lit<, leb, ltb}
 use lib.ListN.{getD}
-use borrow.Author.Tests.{ltb-true, ltb-false, le-ltb, lt-leb, le-leb, leb-true, leb-false, not-false}
-use Rattle.paper.specs.Outcome.{Outcome, refused, passed, checks, refuse-when, scan}
-use Rattle.paper.proofs.Tests.{no-fault, refused-by, passed-by}
-use Rattle.paper.proofs.Scan.{never, other-refused}
-use Rattle.paper.proofs.First.{FirstFault, first-refuses, refuses-first}
+use borrow.Author.Tests.{ltb-true, ltb-false, leb-true, leb-false}
+use Rattle.paper.specs.Outcome.{refused, passed, checks, refuse-when, scan}
+use Rattle.paper.proofs.Tests.{refused-by, passed-by}
+use Rattle.paper.proofs.Scan.{refused-same, never, other-refused}
+use Rattle.paper.proofs.First.{FirstFault, refuses-first}
 use Rattle.prism.specs.Points as prisms
 use Rattle.tree.specs.Words.{elementAt}
 use Rattle.tree.proofs.Digits.{power-pos}
@@ -23,14 +23,12 @@ use Rattle.positions.proofs.Checking.{each-inside}
 use Rattle.corners.specs.declared.Root.{Root}
 use Rattle.corners.specs.CornerPoints.{rootWithin, pointAt, cornerPoint}
 use Rattle.corners.specs.Section.{PointColumns, equalLengths, points, cornerPoints}
-use Rattle.corners.specs.SectionLaws.{Equal, FirstBad}
+use Rattle.corners.specs.SectionLaws.{Equal}
 use Rattle.corners.proofs.Call.{point-refused-1, point-refused-5, point-refused-8, point-refused-24}
 use Rattle.corners.proofs.Filling.{equal}
 use Rattle.corners.proofs.SectionCall.{later, onward}
 use Rattle.corners.proofs.SectionAccepted.{equal-is}
-
-same-refusal : {A : Type 0} (n k m j : ℕ) → _≡_ {A = Outcome A} (refused n k) (refused m j) → (n ≡ m) × (k ≡ j)
-same-refusal n k m j e = (cc, cc)
+use Rattle.corners.proofs.SectionPlaces.{bad-is}
 
 -- the single call never refuses by 11
 single-11 : (l p i : ℕ) (r : Root) → cornerPoint l p i r ≡ refused 11 0 → ⊥
@@ -48,29 +46,6 @@ first-below l [] sound = power-pos 8 l (lit< tt)
 first-below l (p ∷ ps) sound = each-inside l (p ∷ ps) sound 0 (omega arith)
 
 module _ (l : ℕ) (ps : List ℕ) (i : ℕ) (r : Root) (m : PointColumns) where
-  bad-is : (k n : ℕ) → FirstFault (positionFault l) ps 0 n k → (n ≡ 5) × FirstBad l ps k
-  bad-is k n f = by (leb (8 ^ l) (getD ps k 0)) refl
-    where
-      by : (t : Bool) → leb (8 ^ l) (getD ps k 0) ≡ t → (n ≡ 5) × FirstBad l ps k
-      by true beyond = (
-        sym (f .is) ∙ simp beyond,
-        record {
-          index = f .below;
-          bad = leb-true (8 ^ l) (getD ps k 0) beyond;
-          good-before = λ j less. leb-false (8 ^ l) (getD ps j 0) (no-fault (leb (8 ^ l) (getD ps j 0)) 4 0 (f .before j less) .0);
-        },
-      )
-      by false within = absurd (f .some (sym (f .is) ∙ simp within))
-
-  first-is : (k : ℕ) → FirstBad l ps k → FirstFault (positionFault l) ps 0 5 k
-  first-is k b =
-      record {
-        below = b .index;
-        is = simp (le-leb (8 ^ l) (getD ps k 0) (b .bad));
-        some = λ none. omega (arith, none);
-        before = λ j less. simp (lt-leb (8 ^ l) (getD ps j 0) (b .good-before j less));
-      }
-
   module _ (long : Equal ps m) where
     abbrev same : equalLengths ps m ≡ true
     same = equal-is ps m long
@@ -86,12 +61,12 @@ module _ (l : ℕ) (ps : List ℕ) (i : ℕ) (r : Root) (m : PointColumns) where
         by-root : (t : Bool) → rootWithin r ≡ t → leb 6 i ≡ false → (k ≡ 0) × (cornerPoint l (getD ps 0 0) i r ≡ refused n 0)
         by-root true near few = never (points l ps i r) n k (sym h ∙ simp (few, near))
         by-root false far few =
-            let is = same-refusal 24 0 n k (sym (simp (few, far)) ∙ h) in
+            let is = refused-same 24 0 n k (sym (simp (few, far)) ∙ h) in
             (sym (is .1), point-refused-24 l (getD ps 0 0) i r shallow below (leb-false 6 i few) far ∙ ap (λ (j : ℕ). refused j 0) (is .0))
 
         by-number : (t : Bool) → leb 6 i ≡ t → (k ≡ 0) × (cornerPoint l (getD ps 0 0) i r ≡ refused n 0)
         by-number true large =
-            let is = same-refusal 8 0 n k (sym (simp large) ∙ h) in
+            let is = refused-same 8 0 n k (sym (simp large) ∙ h) in
             (sym (is .1), point-refused-8 l (getD ps 0 0) i r shallow below (leb-true 6 i large) ∙ ap (λ (j : ℕ). refused j 0) (is .0))
         by-number false few = by-root (rootWithin r) refl few
 
@@ -101,7 +76,7 @@ module _ (l : ℕ) (ps : List ℕ) (i : ℕ) (r : Root) (m : PointColumns) where
 
     at-bad : (n k j : ℕ) → l ≤ 21 → k ≡ 0 + j → FirstFault (positionFault l) ps 0 n j → AsSingle n k
     at-bad n k j shallow at f =
-        let b = bad-is j n f in
+        let b = bad-is l ps i r m j n f in
         let bad : 8 ^ l ≤ getD ps k 0 = subst⁻¹ (λ (p : ℕ). 8 ^ l ≤ getD ps p 0) (at ∙ zero-add j) (b .1 .bad) in
         (point-refused-5 l (getD ps k 0) i r shallow bad ∙ ap (λ (number : ℕ). refused number 0) (sym (b .0)), λ other. absurd (other (b .0)))
 
@@ -113,7 +88,7 @@ module _ (l : ℕ) (ps : List ℕ) (i : ℕ) (r : Root) (m : PointColumns) where
       where
         by : (t : Bool) → ltb 21 l ≡ t → refuse-when (ltb 21 l) 1 (scan (positionFault l) 0 ps (later l ps i r m same)) ≡ refused n k → AsSingle n k
         by true deep g =
-            let is = same-refusal 1 0 n k (sym (refused-by (ltb 21 l) 1 0 _ deep) ∙ g) in
+            let is = refused-same 1 0 n k (sym (refused-by (ltb 21 l) 1 0 _ deep) ∙ g) in
             at-first n k (sym (is .1), point-refused-1 l (getD ps 0 0) i r (ltb-true 21 l deep) ∙ ap (λ (j : ℕ). refused j 0) (is .0))
         by false low g =
             let shallow = ltb-false 21 l low in
@@ -121,28 +96,6 @@ module _ (l : ℕ) (ps : List ℕ) (i : ℕ) (r : Root) (m : PointColumns) where
             (λ found. at-bad n k (found .0) shallow (found .1 .0) (found .1 .1))
             (λ rest. at-first n k (last-refused n k (rest .1) shallow (rest .0)))
             (refuses-first (positionFault l) 0 (later l ps i r m same) 0 n k ps (sym (passed-by (ltb 21 l) 1 0 _ low) ∙ g))
-
-    pub place-back : (k : ℕ) → l ≤ 21 → FirstBad l ps k → cornerPoints l ps i r m ≡ refused 5 k
-    place-back k shallow b =
-        onward l ps i r m same
-        ∙ passed-by (ltb 21 l) 1 0 _ (le-ltb 21 l shallow)
-        ∙ first-refuses (positionFault l) 0 (later l ps i r m same) 0 k 5 ps (first-is k b)
-        ∙ ap (refused 5) (zero-add k)
-
-  pub place-there : (k : ℕ) → cornerPoints l ps i r m ≡ refused 5 k → Equal ps m × ((l ≤ 21) × FirstBad l ps k)
-  unfolding cornerPoints
-  place-there k h =
-      let columns = other-refused (not (equalLengths ps m)) 11 0 _ 5 k (λ e. omega (arith, e)) h in
-      let level = other-refused (ltb 21 l) 1 0 _ 5 k (λ e. omega (arith, e)) (columns .1) in
-      let first : FirstBad l ps k =
-      ⊎-elim
-      (λ found. subst⁻¹ (FirstBad l ps) (found .1 .0 ∙ zero-add (found .0)) (bad-is (found .0) 5 (found .1 .1) .1))
-      (λ rest.
-      let number = other-refused (leb 6 i) 8 0 _ 5 k (λ e. omega (arith, e)) (rest .1) in
-      let root = other-refused (not (rootWithin r)) 24 0 _ 5 k (λ e. omega (arith, e)) (number .1) in
-      never (points l ps i r) 5 k (sym (root .1)))
-      (refuses-first (positionFault l) 0 _ 0 5 k ps (level .1)) in
-      (equal ps m (not-false _ (columns .0)), (ltb-false 21 l (level .0), first))
 
   -- ---- columns of different lengths
   alone : equalLengths ps m ≡ false → cornerPoints l ps i r m ≡ refused 11 0
@@ -154,7 +107,7 @@ module _ (l : ℕ) (ps : List ℕ) (i : ℕ) (r : Root) (m : PointColumns) where
     where
       by : (t : Bool) → equalLengths ps m ≡ t → k ≡ 0
       by true long = absurd (single-11 l (getD ps k 0) i r (as-single (equal ps m long) 11 k h .0))
-      by false other = sym (same-refusal 11 0 11 k (sym (alone other) ∙ h) .1)
+      by false other = sym (refused-same 11 0 11 k (sym (alone other) ∙ h) .1)
 
   pub unequal-back : (k : ℕ) → (Equal ps m → ⊥) × (k ≡ 0) → cornerPoints l ps i r m ≡ refused 11 k
   unequal-back k (other, none) = by (equalLengths ps m) refl ∙ ap (refused 11) (sym none)

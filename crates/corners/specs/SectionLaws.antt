@@ -1,5 +1,5 @@
--- What is promised of the call over a column of positions, as statements; `proofs/SectionAccepted.antt` and `proofs/SectionRefused.antt` prove
--- them. Definitions only.
+-- What is promised of the call over a column of positions, as statements; `proofs/SectionAccepted.antt`, `SectionPlaces.antt` and
+-- `SectionRefused.antt` prove them. Definitions only.
 --
 --   Equal ps m         the four columns are of one length
 --   Passes l i r       "level, corner number and root corners pass"

@@ -2,6 +2,7 @@
 use mathlib.Core.Path.{_≡_, ap, ap₂, _∙_, sym, subst⁻¹}
 use mathlib.Core.List.{List}
 use Prim.Native.Nat.{ℕ, _≤_, _<_}
+use Rattle.paper.proofs.Scan.{accepted-same}
 use Rattle.paper.specs.Outcome.{accepted}
 use Rattle.leaves.specs.Leaves.{leaves, spotAt, Valid}
 use Rattle.leaves.proofs.Entries.{one-ending}
@@ -10,7 +11,6 @@ use Rattle.numbers.specs.Numbers.{highest}
 use Rattle.format.specs.Reading.{Grid, gridAt}
 use Rattle.format.specs.Laws.{FileOf, OneFile}
 use Rattle.format.proofs.ReadBack.{read-back}
-use Rattle.format.proofs.Taking.{accepted-same}
 use Rattle.format.proofs.Accepting.{accepted-file}
 use Rattle.format.proofs.Standing.{grid-stands}
 use Rattle.format.proofs.AreRuns.{runs-are, runs-only}

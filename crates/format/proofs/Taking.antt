@@ -8,7 +8,7 @@ use lib.Dec.{ltb, eqb}
 use borrow.Author.Tests.{ltb-false, eqb-false, not-false}
 use Rattle.paper.specs.Outcome.{Outcome, accepted, refused, mapped, and-then}
 use Rattle.paper.proofs.Tests.{or-none}
-use Rattle.paper.proofs.Scan.{never, accepted-of}
+use Rattle.paper.proofs.Scan.{never, accepted-of, accepted-same}
 use Rattle.leaves.specs.Calls.{limit, outOfRange}
 use Rattle.numbers.specs.Numbers.{found, numberAt}
 use Rattle.format.specs.Reading.{opens, Head, head, afterRuns, afterRoots, headAt, fits, Walk, FoundRun, foundRun, afterCount, afterLevel, runAt}
@@ -17,14 +17,6 @@ use Rattle.format.specs.Reading.{opens, Head, head, afterRuns, afterRoot
 pub then-accepted : {A B : Type 0} (o : Outcome A) (f : A → Outcome B) (b : B) → and-then o f ≡ accepted b → (a : A) × ((o ≡ accepted a) × (f a ≡ accepted b))
 then-accepted (accepted a) f b h = (a, (refl, h))
 then-accepted (refused number at) f b h = never b number at h
-
--- the value of an accepted outcome, or another
-abbrev valueOr : {A : Type 0} → A → Outcome A → A
-valueOr d (accepted a) = a
-valueOr d (refused number at) = d
-
-pub accepted-same : {A : Type 0} (a b : A) → _≡_ {A = Outcome A} (accepted a) (accepted b) → a ≡ b
-accepted-same a b e = ap (valueOr a) e
 
 pub mapped-accepted : {A B : Type 0} (g : A → B) (o : Outcome A) (b : B) → mapped g o ≡ accepted b → (a : A) × ((o ≡ accepted a) × (g a ≡ b))
 mapped-accepted g (accepted a) b h = (a, (refl, accepted-same (g a) b h))

@@ -38,6 +38,13 @@ fault-none number place rest none = simp (eq-eqb number 0 none)
 pub never : {A B : Type 0} (a : B) (n p : ℕ) → _≡_ {A = Outcome B} (refused n p) (accepted a) → A
 never a n p h = absurd (let z : _≡_ {A = ℕ} 0 1 = cc in omega arith)
 
+-- equal outcomes have equal values, or equal numbers and places
+pub accepted-same : {A : Type 0} (a b : A) → _≡_ {A = Outcome A} (accepted a) (accepted b) → a ≡ b
+accepted-same a b e = cc
+
+pub refused-same : {A : Type 0} (n k m j : ℕ) → _≡_ {A = Outcome A} (refused n k) (refused m j) → (n ≡ m) × (k ≡ j)
+refused-same n k m j e = (cc, cc)
+
 -- an accepted outcome passed the test, and so did the rest
 pub accepted-of : {B : Type 0} (t : Bool) (n p : ℕ) (rest : Outcome B) (a : B) → refuse-when-at t n p rest ≡ accepted a → (t ≡ false) × (rest ≡ accepted a)
 accepted-of true n p rest a h = never a n p h

@@ -1,6 +1,11 @@
--- Demand 2: each part is a law of its crate, at the three shapes. Assumes nothing.
+-- Demand 2: each part is a law of its crate, at the three shapes; and what a section leaves in memory is what its outcome leaves. Assumes nothing.
+use mathlib.Core.Path.{_≡_, sym, subst}
+use mathlib.Core.List.{List}
 use Prim.Native.Nat.{ℕ}
 use native.Mathlib.Omega.{arith}
+use Rattle.paper.specs.Outcome.{accepted, mapped}
+use Rattle.paper.specs.Readings.{passOf}
+use Rattle.paper.proofs.Memory.{gave}
 use Rattle.tree.specs.Shape.{Shape}
 use Rattle.tree.specs.Laws.{Lawful, Faces, Constants}
 use Rattle.tree.proofs.Accepting.{accepts}
@@ -23,9 +28,16 @@ use Rattle.index.proofs.Rank.{line-ranked, triangle-ranked, prism-ranked}
 use Rattle.index.proofs.Bey.{bey}
 use Rattle.leaves.proofs.Ancestors.{cell-laws}
 use Rattle.adaption.proofs.Elements.{relatives}
+use Rattle.corners.specs.declared.Root.{Root}
+use Rattle.corners.specs.declared.Point.{Point}
+use Rattle.corners.specs.Section.{PointColumns, cornerPoints, filled}
+use Rattle.corners.specs.SectionLaws.{Drawn}
+use Rattle.corners.proofs.SectionAccepted.{drawn}
 use Rattle.numbers.proofs.Coded.{codec}
 use Rattle.format.proofs.OneFile.{one-file}
 use Rattle.gridfile.proofs.RoundTrip.{round-trip}
+use Rattle.results.specs.Results.{passResult}
+use Rattle.results.specs.Laws.{words}
 use Rattle.line.proofs.Laws as lines
 use Rattle.line.proofs.Constants as line-constants
 use Rattle.triangle.proofs.Laws as triangles
@@ -39,7 +51,9 @@ use Rattle.adaption.proofs.Promised as adaption
 use Rattle.shares.proofs.Promised as shares
 use Rattle.corners.proofs.Promised as corners
 use Rattle.orders.proofs.Promised as orders
-use Rattle.promises.specs.Demand2.{Figure, lineFigure, triangleFigure, prismFigure, Elements, OfElements, OfLists, OfFiles, Demand2}
+use Rattle.promises.specs.Demand2.{Figure, lineFigure, triangleFigure, prismFigure, Elements, OfElements, OfLists, OfFiles, OfPoints, Demand2}
+use Rattle.promises.proofs.Flat.{returned}
+use Rattle.promises.proofs.OverC.{sections-over-c}
 use Rattle.promises.proofs.ElementCalls.{handed-back}
 use Rattle.promises.proofs.Accepts as lists
 
@@ -98,5 +112,22 @@ of-files =
       round-trip = round-trip 8 21 (omega arith) (omega arith);
     }
 
+-- ---- a section in memory
+left-drawn : (l : ℕ) (ps : List ℕ) (i : ℕ) (r : Root) (m m′ : PointColumns) (found : List Point) → cornerPoints l ps i r m ≡ accepted found
+    → m′ ≡ filled found m → Drawn l ps i r m′
+left-drawn l ps i r m m′ found is kept = subst (Drawn l ps i r) (sym kept) (drawn l ps i r m found is)
+
+of-points : OfPoints
+of-points =
+    record {
+      promised = corners.promised;
+      drawn = λ l ps i r a m m′ f e.
+          let b = gave passOf (λ (found : List Point). tt) filled (cornerPoints l ps i r m) a m m′ tt f e in
+          left-drawn l ps i r m m′ (b .0) (b .1 .0) (b .1 .1 .1);
+      drawn-over-c = λ l ps i r word m m′ f zero.
+          let b = returned words (λ o. passResult (mapped (λ (found : List Point). tt) o)) filled (cornerPoints l ps i r m) word m m′ (sections-over-c l ps i r m) f zero in
+          left-drawn l ps i r m m′ (b .0) (b .1 .0) (b .1 .1 .1);
+    }
+
 pub demand-2 : Demand2
-demand-2 = record { of-elements = of-elements; of-lists = of-lists; of-files = of-files; of-points = corners.promised; of-orders = orders.promised }
+demand-2 = record { of-elements = of-elements; of-lists = of-lists; of-files = of-files; of-points = of-points; of-orders = orders.promised }

@@ -81,3 +81,12 @@ module _ {A R : Type 0} (kind : Kind R) (result : Outcome A → R) (is : Result 
         blank = λ r m f some. of r f some .blank;
         spared = λ r m f some. refl;
       }
+
+-- ---- a word of 0 is an accepted outcome, and its result stands in the memory
+module _ {A R M : Type 0} (kind : Kind R) (shows : Outcome A → R) (put : A → M → M) (due : Outcome A) (r : R) (m m′ : M) where
+  pub returned : {ns : List ℕ} {most : ℕ} → Flat kind ns most due m (λ r m′. Fulfils (λ (r : R). r) shows put due r m m′)
+      → Fulfils (λ (r : R). r) shows put due r m m′ → kind .refusal r ≡ 0
+      → (a : A) × ((due ≡ accepted a) × ((r ≡ shows (accepted a)) × (m′ ≡ put a m)))
+  returned flat f zero =
+      let a = flat .word r m′ f .accepts .0 zero in
+      (a .0, (a .1, (f .answer ∙ ap shows (a .1), f .memory ∙ ap (λ (o : Outcome A). left put o m) (a .1))))

@@ -1,4 +1,4 @@
--- What an accepted call leaves in the lent memory: the first entries are its points, its list, or its boundaries. Assumes nothing.
+-- What an accepted call leaves in the lent memory: the first entries are its list, or its boundaries. Assumes nothing.
 use mathlib.Core.Path.{_≡_, ap, ap₂, _∙_, sym, subst}
 use mathlib.Core.List.{List}
 use Prim.Native.Nat.{ℕ, _+_}
@@ -6,7 +6,7 @@ use native.Mathlib.Omega.{arith}
 use lib.ListN.{length, take, drop}
 use lib.Seq.{take-append-seam}
 use Rattle.paper.specs.Outcome.{Outcome, accepted, mapped}
-use Rattle.paper.specs.Memory.{written, left, Fulfils}
+use Rattle.paper.specs.Memory.{written, Fulfils}
 use Rattle.paper.specs.Readings.{valueOf, passOf}
 use Rattle.paper.specs.declared.NumberAnswer.{NumberAnswer}
 use Rattle.paper.proofs.Memory.{gave}
@@ -22,24 +22,20 @@ use Rattle.adaption.proofs.Promised.{adapt-listed}
 use Rattle.shares.specs.Shares.{boundaries}
 use Rattle.shares.specs.Calls.{shares}
 use Rattle.shares.proofs.Promised.{promised}
-use Rattle.corners.specs.declared.Root.{Root}
-use Rattle.corners.specs.declared.Point.{Point}
-use Rattle.corners.specs.Section.{PointColumns, cornerPoints, filled}
-use Rattle.corners.specs.SectionLaws.{Drawn}
-use Rattle.corners.proofs.SectionAccepted.{drawn}
 use Rattle.format.specs.Reading.{Grid, gridAt}
 use Rattle.writer.specs.Calls.{write}
 use Rattle.reader.specs.Answers.{Size, size, gridOf}
 use Rattle.reader.specs.Calls.{read, sizeOf}
 use Rattle.gridfile.proofs.RoundTrip.{loads-list, read-grid, wrote-file}
 use Rattle.results.specs.Results.{numberResult, passResult, gridResult}
-use Rattle.results.specs.Laws.{Kind, numbers, words, grids}
+use Rattle.results.specs.Laws.{numbers, words, grids}
 use Rattle.results.specs.declared.NumberResult.{NumberResult}
 use Rattle.results.specs.declared.GridResult.{GridResult}
 use Rattle.interface.specs.Calls.{countOf}
 use Rattle.promises.specs.Demand3.{Divided}
 use Rattle.promises.specs.InMemory.{InMemory, InMemoryOverC}
-use Rattle.promises.specs.OverC.{Flat, OverC}
+use Rattle.promises.specs.OverC.{Flat, ListsOverC}
+use Rattle.promises.proofs.Flat.{returned}
 use Rattle.promises.proofs.Accepts.{accepts}
 use Rattle.promises.proofs.Demand3.{of-accepted}
 
@@ -73,10 +69,6 @@ front-grid bytes m m′ g K N is kept roots long =
       here .1,
     )
 
-front-points : (l : ℕ) (ps : List ℕ) (i : ℕ) (r : Root) (m m′ : PointColumns) (found : List Point) → cornerPoints l ps i r m ≡ accepted found
-    → m′ ≡ filled found m → Drawn l ps i r m′
-front-points l ps i r m m′ found is kept = subst (Drawn l ps i r) (sym kept) (drawn l ps i r m found is)
-
 -- ---- the calls
 module _ (k : ℕ) (due : Outcome (List Leaf)) (vs : List Leaf) (is-list : (ws : List Leaf) → due ≡ accepted ws → ValidList 8 21 k (columnsOf ws))
     (which : (ws : List Leaf) → due ≡ accepted ws → ws ≡ vs) where
@@ -91,9 +83,6 @@ module _ (k : ℕ) (due : Outcome (List Leaf)) (vs : List Leaf) (is-list : (ws :
 pub in-memory : InMemory
 in-memory =
     record {
-      drawn = λ l ps i r a m m′ f e.
-          let b = gave passOf (λ (found : List Point). tt) filled (cornerPoints l ps i r m) a m m′ tt f e in
-          front-points l ps i r m m′ (b .0) (b .1 .0) (b .1 .1 .1);
       started = λ k level N r m m′.
           given k (uniform 8 21 k level m) (uniformList 8 21 k level) (uniform-listed 8 21 (omega arith) k level m)
           (λ ws is. accepts .uniform k level m ws .0 is .result) N r m m′;
@@ -111,15 +100,7 @@ in-memory =
           front-grid bytes m m′ (a .0) K N (a .1 .0) (a .1 .1 .1) (ap (λ (s : Size). s .roots) (a .1 .1 .0)) (ap (λ (s : Size). s .leaves) (a .1 .1 .0));
     }
 
--- ---- over C: a word of 0 is an accepted outcome
-module _ {A R M : Type 0} (kind : Kind R) (shows : Outcome A → R) (put : A → M → M) (due : Outcome A) (r : R) (m m′ : M) where
-  returned : {ns : List ℕ} {most : ℕ} → Flat kind ns most due m (λ r m′. Fulfils (λ (r : R). r) shows put due r m m′)
-      → Fulfils (λ (r : R). r) shows put due r m m′ → kind .refusal r ≡ 0
-      → (a : A) × ((due ≡ accepted a) × ((r ≡ shows (accepted a)) × (m′ ≡ put a m)))
-  returned flat f zero =
-      let a = flat .word r m′ f .accepts .0 zero in
-      (a .0, (a .1, (f .answer ∙ ap shows (a .1), f .memory ∙ ap (λ (o : Outcome A). left put o m) (a .1))))
-
+-- ---- over C: what a word of 0 tells
 count-value : {A : Type 0} (es : List A) (r : NumberResult) → r ≡ countOf (accepted es) → length es ≡ r .value
 unfolding numberResult
 count-value es r is = sym (ap (λ (r : NumberResult). r .value) is)
@@ -137,28 +118,25 @@ module _ (k : ℕ) (due : Outcome (List Leaf)) (vs : List Leaf) (is-list : (ws :
       let a = returned numbers countOf front due r m m′ flat f zero in
       listed-as k due vs is-list which (a .0) m m′ (r .value) (a .1 .0) (a .1 .1 .1) (count-value (a .0) r (a .1 .1 .0))
 
-pub in-memory-over-c : OverC → InMemoryOverC
+pub in-memory-over-c : ListsOverC → InMemoryOverC
 in-memory-over-c calls =
     record {
-      drawn = λ l ps i r word m m′ f zero.
-          let a = returned words (λ o. passResult (mapped (λ (found : List Point). tt) o)) filled (cornerPoints l ps i r m) word m m′ (calls .on-sections l ps i r m) f zero in
-          front-points l ps i r m m′ (a .0) (a .1 .0) (a .1 .1 .1);
       started = λ k level r m m′.
           given-over-c k (uniform 8 21 k level m) (uniformList 8 21 k level) (uniform-listed 8 21 (omega arith) k level m)
           (λ ws is. accepts .uniform k level m ws .0 is .result) r m m′
-          (calls .on-lists .uniform k level m);
+          (calls .uniform k level m);
       adapted = λ k r cs ms m m′.
           given-over-c k (adapt 8 21 k cs ms m) (adapted 8 (leaves cs) ms) (adapt-listed 8 21 (omega arith) k cs ms m)
           (λ ws is. accepts .adapt k cs ms m ws .0 is .result) r m m′
-          (calls .on-lists .adapt k cs ms m);
+          (calls .adapt k cs ms m);
       shared = λ k p r cs ws m m′ f zero.
-          let a = returned words (λ o. passResult (mapped (λ (boundaries : List ℕ). tt) o)) written (shares 8 21 k p cs ws m) r m m′ (calls .on-lists .shares k p cs ws m) f zero in
+          let a = returned words (λ o. passResult (mapped (λ (boundaries : List ℕ). tt) o)) written (shares 8 21 k p cs ws m) r m m′ (calls .shares k p cs ws m) f zero in
           front-boundaries k p cs ws m m′ (a .0) (a .1 .0) (a .1 .1 .1);
       saved = λ k r cs m m′ f zero.
-          let a = returned numbers countOf written (write 8 21 k cs m) r m m′ (calls .on-lists .write k cs m) f zero in
+          let a = returned numbers countOf written (write 8 21 k cs m) r m m′ (calls .write k cs m) f zero in
           front-bytes (a .0) m m′ (r .value) (a .1 .1 .1) (count-value (a .0) r (a .1 .1 .0)) ∙ sym (wrote-file 8 21 k cs m (a .0) (a .1 .0));
       loaded = λ bytes r m m′ f zero.
-          let a = returned grids (λ o. gridResult (mapped sizeOf o)) (λ (g : Grid). front (g .leaves)) (read 8 21 bytes m) r m m′ (calls .on-lists .read bytes m) f zero in
+          let a = returned grids (λ o. gridResult (mapped sizeOf o)) (λ (g : Grid). front (g .leaves)) (read 8 21 bytes m) r m m′ (calls .read bytes m) f zero in
           let same = grid-value (a .0) r (a .1 .1 .0) in
           front-grid bytes m m′ (a .0) (r .roots) (r .leaves) (a .1 .0) (a .1 .1 .1) (same .0) (same .1);
     }

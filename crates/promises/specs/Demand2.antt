@@ -11,6 +11,8 @@
 --   OfLists       of leaf lists and their calls: when each call accepts, and with what (`Accepts.antt`); each smallest cell lies in exactly one leaf, and the
 --                 leaves stand along the curve; a leaf's relatives are the prism's; adaption is the paper's one pass, boundaries are the paper's
 --   OfFiles       of grid files: "a list has one file and a file one list", and writing and reading undo each other
+--   OfPoints      of corner points, and what an accepted section leaves in the columns that it was lent, over C too: entry k is what the single call
+--                 answers at position k (`Drawn`, `corners/specs/SectionLaws.antt`)
 --   Demand2       all of it, with corner points (the exact value and no other, the bound, the root's own corners, one point for one local corner, a
 --                 whole section as the single calls one by one) and orders (when one is accepted, the first 71 bytes decide, its fields are
 --                 repeated, its shares are the list's own, its numbers read back, its output has room)
@@ -20,7 +22,9 @@ use mathlib.Core.Bool.{Bool}
 use mathlib.Core.Path.{_≡_}
 use mathlib.Core.List.{List, [], _∷_, List·Memᴰ}
 use Prim.Native.Nat.{ℕ, _≤_, _<_}
-use Rattle.paper.specs.Outcome.{refused}
+use Rattle.paper.specs.Outcome.{refused, passed}
+use Rattle.paper.specs.Readings.{passOf}
+use Rattle.paper.specs.declared.PassAnswer.{PassAnswer}
 use Rattle.tree.specs.Anchors.{HIGHEST}
 use Rattle.tree.specs.Shape.{Shape}
 use Rattle.tree.specs.Calls as calls
@@ -42,6 +46,10 @@ use Rattle.index.specs.Rank.{Ranked}
 use Rattle.leaves.specs.Leaves.{CHILDREN}
 use Rattle.leaves.specs.Cells.{CellLaws}
 use Rattle.adaption.specs.Laws.{Relatives}
+use Rattle.corners.specs.declared.Root.{Root}
+use Rattle.corners.specs.Section.{PointColumns, SectionFilled}
+use Rattle.corners.specs.SectionLaws.{Drawn}
+use Rattle.interface.specs.Calls.{PointsResult}
 use Rattle.numbers.specs.Laws.{Codec}
 use Rattle.format.specs.Laws.{OneFile}
 use Rattle.gridfile.specs.Laws.{RoundTrip}
@@ -144,9 +152,16 @@ pub record OfFiles : Type 0 where
   pub one-file : OneFile CHILDREN HIGHEST
   pub round-trip : RoundTrip CHILDREN HIGHEST
 
+pub record OfPoints : Type 0 where
+  pub promised : corners.Promised
+  pub drawn : (l : ℕ) (ps : List ℕ) (i : ℕ) (r : Root) (a : PassAnswer) (m m′ : PointColumns) → SectionFilled l ps i r a m m′ → passOf a ≡ passed
+      → Drawn l ps i r m′
+  pub drawn-over-c : (l : ℕ) (ps : List ℕ) (i : ℕ) (r : Root) (word : ℕ) (m m′ : PointColumns) → PointsResult l ps i r word m m′ → word ≡ 0
+      → Drawn l ps i r m′
+
 pub record Demand2 : Type 0 where
   pub of-elements : OfElements
   pub of-lists : OfLists
   pub of-files : OfFiles
-  pub of-points : corners.Promised
+  pub of-points : OfPoints
   pub of-orders : orders.Promised

@@ -1,11 +1,10 @@
--- Demands 2 and 3 in memory: what an accepted call leaves in the first entries of the columns, or the first bytes, that it was lent. Definitions only.
+-- Demand 3 in memory: what an accepted call leaves in the first entries of the columns, or the first bytes, that it was lent. Definitions only.
 --
---   InMemory        of each call that writes: which points, list, file or boundaries stand there; a point is the single call's; a list is valid, so
---                   that every list call accepts it where its other arguments are right (`Accepts.antt`); boundaries are those of a division as
---                   demand 3 has it
+--   InMemory        of each call that writes: which list, file or boundaries stand there; and a list that stands there is valid, so that every list
+--                   call accepts it where its other arguments are right (`Accepts.antt`), and boundaries are those of a division as demand 3 has it
 --   InMemoryOverC   the same of each function over C that writes, where its word is 0
 --
--- Not here: the bytes that an order prints (`Answered`, `OrderResult`). Assumes nothing.
+-- Not here: the bytes that an order prints (`Answered`, `OrderResult`), the points of a section (`OfPoints`, `Demand2.antt`). Assumes nothing.
 use mathlib.Core.Path.{_≡_}
 use mathlib.Core.List.{List}
 use Prim.Native.Nat.{ℕ, _+_}
@@ -22,9 +21,6 @@ use Rattle.adaption.specs.Calls.{Adapted}
 use Rattle.adaption.specs.Adaption as adaption
 use Rattle.shares.specs.Shares.{boundaries}
 use Rattle.shares.specs.Calls.{Shared}
-use Rattle.corners.specs.declared.Root.{Root}
-use Rattle.corners.specs.Section.{PointColumns, SectionFilled}
-use Rattle.corners.specs.SectionLaws.{Drawn}
 use Rattle.format.specs.File.{fileOf}
 use Rattle.format.specs.Reading.{gridAt}
 use Rattle.writer.specs.Calls.{FileWritten}
@@ -33,12 +29,10 @@ use Rattle.reader.specs.Calls.{FileRead}
 use Rattle.reader.specs.declared.GridAnswer.{GridAnswer}
 use Rattle.results.specs.declared.NumberResult.{NumberResult}
 use Rattle.results.specs.declared.GridResult.{GridResult}
-use Rattle.interface.specs.Calls.{PointsResult, UniformResult, AdaptResult, SharesResult, WriteResult, ReadResult}
+use Rattle.interface.specs.Calls.{UniformResult, AdaptResult, SharesResult, WriteResult, ReadResult}
 use Rattle.promises.specs.Demand3.{Divided}
 
 pub record InMemory : Type 0 where
-  pub drawn : (l : ℕ) (ps : List ℕ) (i : ℕ) (r : Root) (a : PassAnswer) (m m′ : PointColumns) → SectionFilled l ps i r a m m′ → passOf a ≡ passed
-      → Drawn l ps i r m′
   pub started : (k level N : ℕ) (r : NumberAnswer) (m m′ : Columns) → Started k level r m m′ → valueOf r ≡ accepted N
       → (firstEntries N m′ ≡ columnsOf (uniformList CHILDREN HIGHEST k level)) × ValidList CHILDREN HIGHEST k (firstEntries N m′)
   pub adapted : (k N : ℕ) (r : NumberAnswer) (cs : Columns) (ms : List ℕ) (m m′ : Columns) → Adapted k r cs ms m m′ → valueOf r ≡ accepted N
@@ -52,8 +46,6 @@ pub record InMemory : Type 0 where
       × ValidList CHILDREN HIGHEST K (firstEntries N m′)
 
 pub record InMemoryOverC : Type 0 where
-  pub drawn : (l : ℕ) (ps : List ℕ) (i : ℕ) (r : Root) (word : ℕ) (m m′ : PointColumns) → PointsResult l ps i r word m m′ → word ≡ 0
-      → Drawn l ps i r m′
   pub started : (k level : ℕ) (r : NumberResult) (m m′ : Columns) → UniformResult k level r m m′ → r .refusal ≡ 0
       → (firstEntries (r .value) m′ ≡ columnsOf (uniformList CHILDREN HIGHEST k level)) × ValidList CHILDREN HIGHEST k (firstEntries (r .value) m′)
   pub adapted : (k : ℕ) (r : NumberResult) (cs : Columns) (ms : List ℕ) (m m′ : Columns) → AdaptResult k r cs ms m m′ → r .refusal ≡ 0

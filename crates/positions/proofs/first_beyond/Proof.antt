@@ -12,13 +12,13 @@ use Rattle.positions.proofs.first_beyond.Statement.{statement}
 use Rattle.positions.proofs.first_beyond.Tie as tie
 
 abbrev Inv-loop : tie.InvT-loop
-Inv-loop level positions i₀ i = (i ≤ length positions) × (checks (positionFault level) positions ≡ scan (positionFault level) i (drop i positions) passed)
+Inv-loop level positions i₀ i = checks (positionFault level) positions ≡ scan (positionFault level) i (drop i positions) passed
 
 abbrev μ-loop : tie.MeasureT-loop
 μ-loop level positions i₀ i = length positions - i
 
 loop-holds : tie.Need-loop-holds Inv-loop μ-loop
-loop-holds c = (omega arith, refl)
+loop-holds c = refl
 
 mul-if1 : tie.Need-mul-if1 Inv-loop μ-loop
 mul-if1 c = omega arith
@@ -41,7 +41,7 @@ returns c =
     let a = at-loop .before .args in
     let beyond : 8 ^ a .level ≤ getD (a .positions .now) (at-loop .loop .i) 0 = rw (shifted-power 3 (a .level) (omega arith)) at (c .if1 .taken) in
     record {
-      stands = sym (at-loop .loop .inv .1 ∙ position-found (a .level) (a .positions .now) passed (at-loop .loop .i) (c .before .before .loop-test .taken) beyond);
+      stands = sym (at-loop .loop .inv ∙ position-found (a .level) (a .positions .now) passed (at-loop .loop .i) (c .before .before .loop-test .taken) beyond);
       unplaced = λ none. absurd (omega arith);
     }
 
@@ -56,13 +56,13 @@ loop-again c =
     let at-loop = c .before .before .before in
     let a = at-loop .before .args in
     let below : getD (a .positions .now) (at-loop .loop .i) 0 < 8 ^ a .level = rw (shifted-power 3 (a .level) (omega arith)) at (c .if1 .left) in
-    (omega arith, at-loop .loop .inv .1 ∙ position-next (a .level) (a .positions .now) passed (at-loop .loop .i) (c .before .before .loop-test .taken) below)
+    at-loop .loop .inv ∙ position-next (a .level) (a .positions .now) passed (at-loop .loop .i) (c .before .before .loop-test .taken) below
 
 returns-2 : tie.Need-returns-2 Inv-loop μ-loop
 returns-2 c =
     let a = c .before .before .args in
     record {
-      stands = sym (c .before .loop .inv .1 ∙ ap (λ (xs : List ℕ). scan (positionFault (a .level)) (c .before .loop .i) xs passed) (drop-of-length-le (a .positions .now) (c .loop-test .left)));
+      stands = sym (c .before .loop .inv ∙ ap (λ (xs : List ℕ). scan (positionFault (a .level)) (c .before .loop .i) xs passed) (drop-of-length-le (a .positions .now) (c .loop-test .left)));
       unplaced = λ none. refl;
     }
 

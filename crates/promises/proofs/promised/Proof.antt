@@ -1,6 +1,6 @@
 -- `promised` meets its contract: each demand has its proof. Assumes nothing.
 use Rattle.promises.proofs.Demand1.{of-calls}
-use Rattle.promises.proofs.OverC.{over-c}
+use Rattle.promises.proofs.OverC.{lists-over-c, over-c}
 use Rattle.promises.proofs.Demand2.{demand-2}
 use Rattle.promises.proofs.Demand3.{of-grids}
 use Rattle.promises.proofs.InMemory.{in-memory, in-memory-over-c}
@@ -13,7 +13,7 @@ returns c =
     record {
       demand-1 = record { of-calls = of-calls; over-c = over-c };
       demand-2 = demand-2;
-      demand-3 = record { of-grids = of-grids; in-memory = in-memory; in-memory-over-c = in-memory-over-c over-c };
+      demand-3 = record { of-grids = of-grids; in-memory = in-memory; in-memory-over-c = in-memory-over-c lists-over-c };
       starred-examples = starred-hold;
     }
 

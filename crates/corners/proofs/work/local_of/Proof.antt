@@ -1,9 +1,10 @@
 -- `local_of` meets its contract: an element's corners lie none or one side from its anchor, within the edge. Assumes nothing.
+use Prim.Native.Nat.{_/_, _%_}
 use native.Mathlib.Nat.{mod-lt}
 use native.Mathlib.Omega.{arith}
 use lib.Dec.{lit<}
 use borrow.Author.Needs.{needs}
-use Rattle.corners.proofs.LocalCorners.{room-at, Reaches, reaches, found}
+use Rattle.corners.proofs.LocalCorners.{room-at, Spans, spans, found}
 use Rattle.corners.proofs.work.local_of.Statement.{statement}
 use Rattle.corners.proofs.work.local_of.Tie as tie
 
@@ -17,8 +18,11 @@ cast-s : tie.Need-cast-s
 cast-s c = omega (arith, c .sides .ensures .narrow)
 
 -- what is known once the sides are
-reached : (c : tie.After-sides) → Reaches (c .before .before .args .e) (c .before .side .result) (c .sides .result) (c .before .before .args .corner)
-reached c = reaches _ _ _ _ (c .before .side .ensures) (c .sides .ensures .narrow) (c .before .before .pre .0) (c .before .before .pre .1)
+reached : (c : tie.After-sides) → Spans (c .before .before .args .e) (c .before .side .result) (c .sides .result / 2) (c .sides .result % 2) (c .before .before .args .corner / 3)
+reached c =
+    let start = c .before .before in
+    let h = c .before .side in
+    spans (start .args .e) 1 (h .result) _ _ _ (omega (arith, h .ensures)) (start .pre .0) (omega (arith, c .sides .ensures .narrow)) (omega arith) (omega (arith, start .pre .1))
 
 mul-x : tie.Need-mul-x
 mul-x c = omega (arith, reached c .step-x)

@@ -2,8 +2,7 @@
 use mathlib.Core.Path.{refl, ap, _∙_, sym}
 use borrow.Author.Needs.{needs}
 use Rattle.numbers.specs.Answers.{foundOf}
-use Rattle.format.proofs.Taking.{accepted-same}
-use Rattle.paper.proofs.Scan.{never}
+use Rattle.paper.proofs.Scan.{never, accepted-same}
 use Rattle.numbers.specs.Numbers.{Found}
 use Rattle.reader.proofs.fill.count_at.Statement.{statement}
 use Rattle.reader.proofs.fill.count_at.Tie as tie

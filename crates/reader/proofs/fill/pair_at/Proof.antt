@@ -4,8 +4,7 @@ use Prim.Native.Nat.{_%_}
 use native.Mathlib.Nat.{mod-eq-of-lt}
 use borrow.Author.Needs.{needs}
 use Rattle.numbers.specs.Answers.{foundOf}
-use Rattle.format.proofs.Taking.{accepted-same}
-use Rattle.paper.proofs.Scan.{never}
+use Rattle.paper.proofs.Scan.{never, accepted-same}
 use Rattle.numbers.specs.Numbers.{Found, numberAt}
 use Rattle.reader.proofs.fill.pair_at.Statement.{statement}
 use Rattle.reader.proofs.fill.pair_at.Tie as tie
