@@ -9,7 +9,7 @@
 --   FirstBad l ps k    position k is not below 8^l, and all before it are
 --   entry m k          the point that stands in entry k of the columns m
 --   Drawn              entry k of the columns is what the single call answers at position k, and the columns have the positions' length: promised of an
---                      accepted call in `promises/specs/InMemory.antt`
+--                      accepted call in `promises/specs/Demand2.antt`
 --   SectionLaws
 --     accepts          the call accepts exactly when the columns are of one length, the numbers pass and the single call accepts every position, and
 --                      with those points; "Empty columns are accepted once level, corner number and root corners pass" is the case of no position
