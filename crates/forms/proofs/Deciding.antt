@@ -13,7 +13,7 @@ use Rattle.paper.proofs.Scan.{scan-step, scan-found}
 use Rattle.forms.specs.declared.Form.{Form}
 use Rattle.forms.specs.declared.field.Found.{Found}
 use Rattle.fields.specs.Fields.{fields, value}
-use Rattle.forms.specs.Forms.{asMeant, numberIn, outside, numberFault, fault, formIn, read}
+use Rattle.forms.specs.Forms.{numberIn, outside, numberFault, fault, formIn, read}
 use Rattle.fields.specs.Inner.{piece, next}
 use Rattle.forms.specs.Inner.{Taken}
 use Rattle.forms.proofs.Ranges.{outside-same}
@@ -57,11 +57,11 @@ module _ {s v : List ℕ} {at end i : ℕ} (reading : Reading s v at end i) wher
     fault-found =
         let numbers = reading .numbers in
         taken .fault
-        ∙ ap (λ (w : ℕ). numberFault (ltb (length s) at) (asMeant i (piece (drop at s))) w)
-        (outside-same (value (asMeant i (piece (drop at s)))) (getD v 4 0) (getD v 5 0) i (numberIn (fields s) 4) (numberIn (fields s) 5)
+        ∙ ap (λ (w : ℕ). numberFault (ltb (length s) at) (piece (drop at s)) w)
+        (outside-same (value (piece (drop at s))) (getD v 4 0) (getD v 5 0) i (numberIn (fields s) 4) (numberIn (fields s) 5)
         (λ seven. numbers 4 (omega arith) (omega arith)) (λ seven. numbers 5 (omega arith) (omega arith)))
         ∙ sym
-        (ap₂ (λ (x : Bool) (f : List ℕ). numberFault x (asMeant i f) (outside i (value (asMeant i f)) (numberIn (fields s) 4) (numberIn (fields s) 5)))
+        (ap₂ (λ (x : Bool) (f : List ℕ). numberFault x f (outside i (value f) (numberIn (fields s) 4) (numberIn (fields s) 5)))
         (missing-test s (i - 1) at end (reading .come)) here)
 
     pub reading-refused : (r .fault ≡ 0 → ⊥) → refused (r .fault) i ≡ read s
@@ -95,7 +95,7 @@ module _ {s v : List ℕ} {at end i : ℕ} (reading : Reading s v at end i) wher
               ap (λ (k : ℕ). getD (set v i (r .number)) k 0) is
               ∙ getD-set-same v i (r .number) 0 room
               ∙ taken .number none
-              ∙ ap (λ (f : List ℕ). value (asMeant i f)) (sym here)
+              ∙ ap value (sym here)
               ∙ ap (numberIn (fields s)) (sym is)
           by-number j false e low high =
               let other = eqb-false j i e in

@@ -12,9 +12,8 @@ use borrow.Author.Tests.{ne-eqb, le-leb, lt-leb, eqb-true, eqb-false}
 use Rattle.paper.specs.Outcome.{Outcome, accepted, refused, refuse-when-at, fault-when, scan, rows}
 use Rattle.paper.proofs.Scan.{fault-taken}
 use Rattle.fields.specs.Fields.{fields, ended, isNumber, value}
-use Rattle.forms.specs.Forms.{asMeant, given, numberIn, outside, numberFault, fault, formIn, inOrder, read, longestInput}
+use Rattle.forms.specs.Forms.{given, numberIn, outside, numberFault, fault, formIn, inOrder, read, longestInput}
 use Rattle.forms.proofs.Ranges.{outside-same}
-use Rattle.forms.proofs.Meaning.{given-some}
 use Rattle.fields.proofs.FirstBytes.{Alike, same, long, more, over, alike-take}
 
 -- ---- scans of the same faults
@@ -48,7 +47,7 @@ module _ (ps gs gs′ : List (List ℕ)) where
   front-given : (i : ℕ) → 1 ≤ i → i ≤ length ps → given (ps ++ gs) i ≡ given (ps ++ gs′) i
   front-given i low high =
       let inside : i - 1 < length ps = omega arith in
-      ap (asMeant i) (List·getD-append ps gs [] (i - 1) inside ∙ sym (List·getD-append ps gs′ [] (i - 1) inside))
+      List·getD-append ps gs [] (i - 1) inside ∙ sym (List·getD-append ps gs′ [] (i - 1) inside)
 
   front-there : (i : ℕ) → 1 ≤ i → i ≤ length ps → leb (length (ps ++ gs)) (i - 1) ≡ leb (length (ps ++ gs′)) (i - 1)
   front-there i low high =
@@ -66,18 +65,15 @@ module _ (ps gs gs′ : List (List ℕ)) where
       ∙ ap (λ (v : ℕ). outside i v (numberIn (ps ++ gs′) 4) (numberIn (ps ++ gs′) 5)) (ap value is))
 
 -- ---- a field that is too long
-long-meant : (i : ℕ) (f : List ℕ) → 9 < length f → isNumber (asMeant i f) ≡ false
-long-meant i f far =
-    ap isNumber (given-some i f (λ none. omega (arith, none)))
-    ∙ simp (le-leb 1 (length f) (omega arith), lt-leb (length f) 9 far)
+long-number : (f : List ℕ) → 9 < length f → isNumber f ≡ false
+long-number f far = simp (le-leb 1 (length f) (omega arith), lt-leb (length f) 9 far)
 
 long-fault : (ps gs : List (List ℕ)) (f : List ℕ) → 9 < length f → fault (ps ++ (f ∷ gs)) (length ps + 1) ≡ 23
 long-fault ps gs f far =
     let here : length ps + 1 - 1 ≡ length ps = omega arith in
-    let is : given (ps ++ (f ∷ gs)) (length ps + 1) ≡ asMeant (length ps + 1) f =
-    ap (λ (j : ℕ). asMeant (length ps + 1) (getD (ps ++ (f ∷ gs)) j [])) here ∙ ap (asMeant (length ps + 1)) (getD-append-seam ps f gs []) in
+    let is : given (ps ++ (f ∷ gs)) (length ps + 1) ≡ f = ap (λ (j : ℕ). getD (ps ++ (f ∷ gs)) j []) here ∙ getD-append-seam ps f gs [] in
     let there = lt-leb (length (ps ++ (f ∷ gs))) (length ps + 1 - 1) (omega (arith, length-append ps (f ∷ gs))) in
-    refused-number _ _ _ there (ap isNumber is ∙ long-meant (length ps + 1) f far)
+    refused-number _ _ _ there (ap isNumber is ∙ long-number f far)
   where
     refused-number : (missing right : Bool) (w : ℕ) → missing ≡ false → right ≡ false → fault-when missing 23 (fault-when (not right) 23 w) ≡ 23
     refused-number missing right w p q = simp (p, q)
@@ -87,7 +83,7 @@ long-fault ps gs f far =
 over-last : (fs : List (List ℕ)) (w : Bool) → 7 < length fs → refuse-when-at (not (eqb (length fs) 7 && w)) 23 8 (accepted (formIn fs)) ≡ refused 23 8
 over-last fs w many = simp (ne-eqb (length fs) 7 (λ d. omega (arith, d)))
 
-read-alike : (k : ℕ) (ps gs gs′ : List (List ℕ)) (w w′ : Bool) → length ps + k ≡ 7 → Alike k gs w gs′ w′ → inOrder (ps ++ gs) w ≡ inOrder (ps ++ gs′) w′
+pub read-alike : (k : ℕ) (ps gs gs′ : List (List ℕ)) (w w′ : Bool) → length ps + k ≡ 7 → Alike k gs w gs′ w′ → inOrder (ps ++ gs) w ≡ inOrder (ps ++ gs′) w′
 read-alike _ ps _ _ _ _ seven same = refl
 read-alike _ ps _ _ w w′ seven (long {k} {f} {f′} {fs} {fs′} far far′) =
     scan-until (fault (ps ++ (f ∷ fs))) (fault (ps ++ (f′ ∷ fs′))) _ _ (length ps + 1) 1 7 (omega arith) (omega arith)

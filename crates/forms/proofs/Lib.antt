@@ -1,5 +1,4 @@
 pub mod Ranges
-pub mod Meaning
 pub mod Taking
 pub mod Bounds
 pub mod Deciding

@@ -38,22 +38,22 @@ module _ {s : List ℕ} {at i K L : ℕ} where
         end = λ h. absurd (omega (arith, h));
       }
 
-  pub taken-faulty : {n e a b : ℕ} → at ≤ length s → number (fieldAt s at i) ≡ refused a b
+  pub taken-faulty : {n e a b : ℕ} → at ≤ length s → number (fieldAt s at) ≡ refused a b
       → Taken s at i K L record { fault = 23; number = n; end = e }
   taken-faulty {n} {e} {a} {b} inside bad =
-      let is : isNumber (fieldAt s at i) ≡ false = refused-by-number (isNumber (fieldAt s at i)) (value (fieldAt s at i)) a b bad in
+      let is : isNumber (fieldAt s at) ≡ false = refused-by-number (isNumber (fieldAt s at)) (value (fieldAt s at)) a b bad in
       record {
         fault = simp (le-ltb (length s) at inside, is);
         number = λ h. absurd (omega (arith, h));
         end = λ h. absurd (omega (arith, h));
       }
 
-  pub taken-number : {f v e : ℕ} → at ≤ length s → number (fieldAt s at i) ≡ accepted v → f ≡ outside i v K L
+  pub taken-number : {f v e : ℕ} → at ≤ length s → number (fieldAt s at) ≡ accepted v → f ≡ outside i v K L
       → e ≡ at + length (piece (drop at s)) → Taken s at i K L record { fault = f; number = v; end = e }
   taken-number {f} {v} {e} inside good range ends =
-      let f′ = fieldAt s at i in
+      let f′ = fieldAt s at in
       let is = numbered-by (isNumber f′) (value f′) v good in
-      let said : value (fieldAt s at i) ≡ v = is .1 in
+      let said : value (fieldAt s at) ≡ v = is .1 in
       record {
         fault = range ∙ ap (λ (w : ℕ). outside i w K L) (sym said) ∙ sym (sound-number (ltb (length s) at) (isNumber f′) (outside i (value f′) K L) (le-ltb (length s) at inside) (is .0));
         number = λ h. sym said;

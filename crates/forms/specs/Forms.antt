@@ -1,9 +1,9 @@
 -- Document 01, "Refusal numbers": "Order: fields left to right; too few, the first missing; too many, a missing LF or bytes after it, field 8.
--- Field four or six out of range is 17, field five above 21 is 1, too many leaves is 15 at field 7." Definitions only.
+-- Field four or six out of range is 17, field five above 21 is 1, too many leaves is 15 at field 7." Document 02, ticket 2: "An empty initial
+-- level is refused, whatever the template says. .. 23 at field 7 for an empty one, in its present place." Definitions only.
 --
---   seventh f         "Field seven may be empty and then means 2"
---   asMeant i f       the field f, where it stands as field i: an empty field seven as what it means, every other field as it is
---   given fs i        what stands in field i, counted from 1, as meant; a missing field reads like an empty one (`fault` looks for that first)
+--   given fs i        what stands in field i, counted from 1; a missing field reads like an empty one (`fault` looks for that first), and neither
+--                     is a number
 --   numberIn fs i     the number in field i
 --   outside i v K L   the refusal of the number v in field i, 0 where there is none; K and L are the numbers of fields four and five
 --   numberFault       23 where a field is missing or is no number, else what else it has
@@ -15,8 +15,8 @@
 --   formOf            the outcome that a FormAnswer stands for
 --
 -- Assumes nothing.
-use mathlib.Core.Bool.{Bool, cond, not, _&&_}
-use mathlib.Core.List.{List, [], _∷_}
+use mathlib.Core.Bool.{Bool, not, _&&_}
+use mathlib.Core.List.{List, []}
 use Prim.Native.Nat.{ℕ, _-_, _*_, _^_}
 use lib.Dec.{eqb, leb, ltb}
 use lib.ListN.{length, getD}
@@ -29,16 +29,8 @@ use Rattle.forms.specs.declared.Form.{Form}
 use Rattle.forms.specs.declared.FormAnswer.{FormAnswer}
 use Rattle.forms.specs.declared.FormAnswer.the-variants as answer
 
--- the digit 2 for an empty field
-abbrev pub seventh : List ℕ → List ℕ
-seventh [] = 50 ∷ []
-seventh (b ∷ f) = b ∷ f
-
-abbrev pub asMeant : ℕ → List ℕ → List ℕ
-asMeant i f = cond (eqb i 7) (seventh f) f
-
 abbrev pub given : List (List ℕ) → ℕ → List ℕ
-given fs i = asMeant i (getD fs (i - 1) [])
+given fs i = getD fs (i - 1) []
 
 abbrev pub numberIn : List (List ℕ) → ℕ → ℕ
 numberIn fs i = value (given fs i)

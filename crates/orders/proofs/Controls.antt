@@ -1,4 +1,4 @@
--- Closed cases of document 01, "Order program", computed by the checker: the example's output byte for byte, and a refusal of each kind.
+-- Closed cases of document 01, "Order program", and of document 02, ticket 2, computed by the checker: the example's output byte for byte, and a refusal of each kind.
 -- Assumes nothing.
 use mathlib.Core.Path.{_≡_, refl}
 use mathlib.Core.List.{List, [], _∷_}
@@ -19,10 +19,20 @@ example-printed : output example ≡ 111 ∷ 114 ∷ 100 ∷ 101 ∷ 114 ∷ 32 
 unfolding example fields ended allDigits valueFrom decimalIn chained total largest
 example-printed = refl
 
--- `1;7;3;1;1;3;`
-above-the-highest : read (49 ∷ 59 ∷ 55 ∷ 59 ∷ 51 ∷ 59 ∷ 49 ∷ 59 ∷ 49 ∷ 59 ∷ 51 ∷ 59 ∷ 10 ∷ []) ≡ refused 23 7
+-- `1;7;3;1;1;3;2`
+above-the-highest : read (49 ∷ 59 ∷ 55 ∷ 59 ∷ 51 ∷ 59 ∷ 49 ∷ 59 ∷ 49 ∷ 59 ∷ 51 ∷ 59 ∷ 50 ∷ 10 ∷ []) ≡ refused 23 7
 unfolding fields ended allDigits valueFrom
 above-the-highest = refl
+
+-- `1;7;3;1;4;3;`: no trial level
+empty-seven : read (49 ∷ 59 ∷ 55 ∷ 59 ∷ 51 ∷ 59 ∷ 49 ∷ 59 ∷ 52 ∷ 59 ∷ 51 ∷ 59 ∷ 10 ∷ []) ≡ refused 23 7
+unfolding fields ended allDigits valueFrom
+empty-seven = refl
+
+-- `1;7;3;1;4;3;;`, without LF: field seven before field 8
+empty-before-eight : read (49 ∷ 59 ∷ 55 ∷ 59 ∷ 51 ∷ 59 ∷ 49 ∷ 59 ∷ 52 ∷ 59 ∷ 51 ∷ 59 ∷ 59 ∷ []) ≡ refused 23 7
+unfolding fields ended allDigits valueFrom
+empty-before-eight = refl
 
 -- `1;7`
 first-missing : read (49 ∷ 59 ∷ 55 ∷ 10 ∷ []) ≡ refused 23 3

@@ -1,5 +1,4 @@
 pub mod Answering
 pub mod SameShares
 pub mod Promised
-pub mod Program
 pub mod Controls

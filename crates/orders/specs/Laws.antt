@@ -1,14 +1,13 @@
 -- What is promised of the order program, as statements. Definitions only.
 --
---   Ordered s f    what makes an order line s an order for f: seven fields and one LF, nothing after it; each field, as meant, is a number;
+--   Ordered s f    what makes an order line s an order for f: seven fields and one LF, nothing after it; each field is a number, the seventh too;
 --                  fields four and six are 1 to 4,096, field five at most 21, field seven not above field five; not more than 1,048,576
 --                  leaves; and f has their numbers
 --   started f      the uniform start that is ordered
 --   SameShares f   `printed` prints the boundaries of all weights 1; on the columns of the uniform start, with these weights and a column
 --                  that is long enough, the list's own call for shares accepts with the same boundaries; they are the thesis's formula 27
 --   Repeats s f    "The first line repeats fields 1, 2, 3 and 4, then level used, leaf count, field 6": each of these numbers of the
---                  form f, printed, is its field of the input s, byte for byte (an empty field seven as what it means); the leaf count is the
---                  roots times 8^level
+--                  form f, printed, is its field of the input s, byte for byte; the leaf count is the roots times 8^level
 --   ReadsBack n    the decimal of n is a number by the paper's rule for a field ("1 to 9 digits without a leading zero, except 0 itself"),
 --                  and says n
 --   Small f        the numbers of the form f: each in its range, and no boundary past the last leaf

@@ -1,4 +1,5 @@
 pub mod Writing
+pub mod Buffers
 pub mod Decimals
 pub mod Lines
 pub mod Sharing

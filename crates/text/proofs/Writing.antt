@@ -1,7 +1,7 @@
 -- Bytes put one run after another are put as one run. Assumes nothing.
 use mathlib.Core.Path.{_≡_, refl, ap, ap₂, _∙_, sym}
 use mathlib.Core.List.{List, [], _∷_, _++_}
-use Prim.Native.Nat.{ℕ, _+_, _≤_, _<_}
+use Prim.Native.Nat.{ℕ, suc, _+_, _≤_, _<_}
 use native.Mathlib.Numerals.{add-one}
 use native.Mathlib.Omega.{arith}
 use lib.ListN.{length, getD, set, take, length-append}
@@ -26,7 +26,12 @@ byte-out l at b past = sym (set-out l at b past)
 pub put-length : {t : List ℕ} {at r : ℕ} {l l′ : List ℕ} → Put t at l l′ r → length l′ ≡ length l
 put-length {t} {at} {r} {l} {l′} p = ap length (p .written) ∙ length-sets l at t
 
--- ---- a word, byte by byte
+-- bytes past the end are left out
+pub bytes-out : (t l : List ℕ) (at : ℕ) → length l ≤ at → l ≡ sets l at t
+bytes-out [] l at past = refl
+bytes-out (b ∷ t) l at past = bytes-out t l (suc at) (omega arith) ∙ ap (λ (m : List ℕ). sets m (suc at) t) (byte-out l at b past)
+
+-- ---- some bytes, one by one
 module _ (l t : List ℕ) (at : ℕ) where
   pub word-more : (m m′ : List ℕ) (i : ℕ) → i < length t → m ≡ sets l at (take i t) → m′ ≡ set m (at + i) (getD t i 0) → m′ ≡ sets l at (take (i + 1) t)
   word-more m m′ i inside so-far stored =
@@ -36,9 +41,5 @@ module _ (l t : List ℕ) (at : ℕ) where
       ∙ sets-append l at (take i t) (getD t i 0 ∷ [])
       ∙ ap (sets l at) (sym (ap (λ (j : ℕ). take j t) (add-one i) ∙ take-suc t i 0 inside))
 
-  pub word-done : (m : List ℕ) (i : ℕ) → length t ≤ i → i ≤ length t → m ≡ sets l at (take i t) → Put t at l m (at + i)
-  word-done m i past within so-far =
-      record {
-        written = so-far ∙ ap (sets l at) (take-all i t past);
-        end = omega arith;
-      }
+  pub word-done : (m : List ℕ) (i : ℕ) → length t ≤ i → m ≡ sets l at (take i t) → m ≡ sets l at t
+  word-done m i past so-far = so-far ∙ ap (sets l at) (take-all i t past)

@@ -5,6 +5,7 @@ use forms::FormAnswer;
 ghost use mathlib.Core.Path.{_≡_};
 ghost use Prim.Native.Nat.{_+_, _*_, _/_, _^_, _≤_, _<_};
 ghost use lib.ListN.{length, set};
+ghost use lib.Seq.{sets};
 ghost use Rattle.forms.specs.Forms.{formOf};
 ghost use Rattle.text.specs.Text.{counted, shareLine, shareLines, firstLine, refusalLine};
 ghost use Rattle.text.specs.Text.{decimal as Text·decimal};
@@ -20,17 +21,27 @@ fn put(out: &mut [u8], at: usize, b: u8)
     }
 }
 
-// Some bytes.
-fn word(out: &mut [u8], at: usize, text: &[u8]) -> usize
-    requires { ⌜ at + length (now text) < 2 ^ 64 ⌝ }
-    ensures { λ r. ⌜ Put (now (text .entry)) at (now (out .entry)) (now (out .exit)) r ⌝ }
+// Some bytes, from `at` on.
+pub fn lay(out: &mut [u8], at: usize, text: &[u8])
+    ensures { λ _. ⌜ now (out .exit) ≡ sets (now (out .entry)) at (now (text .entry)) ⌝ }
 {
+    if out.len() <= at {
+        return;
+    }
     let mut i = 0;
     while i < text.len() {
         put(out, at + i, text[i]);
         i += 1;
     }
-    at + i
+}
+
+// Some bytes, and where they end.
+fn word(out: &mut [u8], at: usize, text: &[u8]) -> usize
+    requires { ⌜ at + length (now text) < 2 ^ 64 ⌝ }
+    ensures { λ r. ⌜ Put (now (text .entry)) at (now (out .entry)) (now (out .exit)) r ⌝ }
+{
+    lay(out, at, text);
+    at + text.len()
 }
 
 // A number in decimal digits.

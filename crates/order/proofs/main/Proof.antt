@@ -1,11 +1,13 @@
 -- `main` is safe: what it prints lies within its buffer, and the call never refuses a buffer so long. Assumes nothing.
 use Prim.Native.Nat.{ℕ}
 use mathlib.Core.Path.{sym}
-use native.Mathlib.Nat.{le-of-eq}
+use native.Mathlib.Nat.{le-of-eq, le-trans}
 use lib.ListN.{length-replicate}
 use borrow.Author.Needs.{needs}
 use Rattle.text.specs.Text.{longestOutput}
-use Rattle.orders.proofs.Program.{answer-within, answer-prefix, answer-never-14}
+use Rattle.text.proofs.Buffers.{within, prefix, never-14}
+use Rattle.orders.specs.Calls.{output}
+use Rattle.orders.proofs.Promised.{promised}
 use Rattle.order.proofs.main.Statement.{statement}
 use Rattle.order.proofs.main.Tie as tie
 
@@ -33,13 +35,13 @@ enum-known-size c = search needs
 array-share-prefix-text : tie.Need-array-share-prefix-text
 array-share-prefix-text c =
     let at-answer = c .before .before .before .before in
-    answer-within _ _ _ (at-answer .answer .result) _ (at-answer .answer .ensures) (c .before .size .given .1)
+    within (output _) _ _ (at-answer .answer .result) (at-answer .answer .ensures) _ (c .before .size .given .1)
 
 slice-aggregate-write-all : tie.Need-slice-aggregate-write-all
 slice-aggregate-write-all c =
     let at-size = c .before .before in
     let at-answer = at-size .before .before .before in
-    answer-prefix _ _ _ (at-answer .answer .result) _ (at-answer .answer .ensures) (at-size .size .given .1)
+    prefix (output _) _ _ (at-answer .answer .result) (at-answer .answer .ensures) _ (at-size .size .given .1)
 
 write-all-requires : tie.Need-write-all-requires
 write-all-requires c κs = search needs
@@ -50,7 +52,8 @@ enum-told c = search needs
 never-requires : tie.Need-never-requires
 never-requires c κs =
     let at-answer = c .before .before .before in
-    answer-never-14 _ _ _ (at-answer .answer .result) _ _ (at-answer .answer .ensures) (c .enum-told .given .1) (le-of-eq (sym (length-replicate {A = ℕ} longestOutput 0)))
+    never-14 (output _) _ _ (at-answer .answer .result) (at-answer .answer .ensures) _ _ (c .enum-told .given .1)
+    (le-trans (promised .room _) (le-of-eq (sym (length-replicate {A = ℕ} longestOutput 0))))
 
 returns : tie.Need-returns
 returns c = search needs

@@ -1,18 +1,23 @@
--- `word` meets its contract: after i bytes, the first i are put. Assumes nothing.
+-- `lay` meets its contract: after i bytes, the first i are put. Assumes nothing.
 use mathlib.Core.Path.{_≡_, refl, ap, _∙_}
 use Prim.Native.Nat.{_-_, _≤_}
 use native.Mathlib.Omega.{arith}
 use lib.ListN.{length, take}
 use lib.Seq.{sets, length-sets}
-use Rattle.text.proofs.Writing.{word-more, word-done}
-use Rattle.text.proofs.word.Statement.{statement}
-use Rattle.text.proofs.word.Tie as tie
+use Rattle.text.proofs.Writing.{word-more, word-done, bytes-out}
+use Rattle.text.proofs.lay.Statement.{statement}
+use Rattle.text.proofs.lay.Tie as tie
 
 abbrev Inv-loop : tie.InvT-loop
 Inv-loop out₀ at text i₀ out i = (i ≤ length text) × (out ≡ sets out₀ at (take i text))
 
 abbrev μ-loop : tie.MeasureT-loop
 μ-loop out₀ at text i₀ out i = length text - i
+
+returns : tie.Need-returns Inv-loop μ-loop
+returns c =
+    let a = c .before .before .before .args in
+    bytes-out (a .text .now) (a .out .now) (a .at) (c .if1 .taken)
 
 loop-holds : tie.Need-loop-holds Inv-loop μ-loop
 loop-holds c = (omega arith, refl)
@@ -36,29 +41,27 @@ loop-again : tie.Need-loop-again Inv-loop μ-loop
 loop-again c =
     let at-put = c .before .before in
     let at-loop = at-put .before .before .before .before in
-    let a = at-loop .before .before .before .args in
+    let a = at-loop .before .before .before .before .args in
     let l = at-loop .loop in
     (omega arith, word-more (a .out .now) (a .text .now) (a .at) (l .out) _ (l .i) (omega arith) (l .inv .1) (at-put .put .ensures))
 
-add-result : tie.Need-add-result Inv-loop μ-loop
-add-result c = omega arith
-
 same-length : tie.Need-same-length Inv-loop μ-loop
 same-length c =
-    let a = c .before .before .before .before .args in
+    let a = c .before .before .before .before .before .args in
     ap length (c .before .loop .inv .1) ∙ length-sets (a .out .now) (a .at) (take (c .before .loop .i) (a .text .now))
 
-returns : tie.Need-returns Inv-loop μ-loop
-returns c =
-    let a = c .before .before .before .before .args in
-    word-done (a .out .now) (a .text .now) (a .at) (c .before .loop .out) (c .before .loop .i) (omega arith) (omega arith) (c .before .loop .inv .1)
+returns-2 : tie.Need-returns-2 Inv-loop μ-loop
+returns-2 c =
+    let a = c .before .before .before .before .before .args in
+    word-done (a .out .now) (a .text .now) (a .at) (c .before .loop .out) (c .before .loop .i) (omega arith) (c .before .loop .inv .1)
 
-pub word-spec : {M : Type 1} → statement M
-word-spec =
+pub lay-spec : {M : Type 1} → statement M
+lay-spec =
     tie.close
     (tie.spec
     Inv-loop
     μ-loop
+    returns
     loop-holds
     add-put
     shared-slice-read-put
@@ -66,6 +69,5 @@ word-spec =
     add-i
     loop-less
     loop-again
-    add-result
     same-length
-    returns)
+    returns-2)

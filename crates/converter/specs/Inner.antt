@@ -1,0 +1,34 @@
+-- Inner contracts: what functions ask and answer that only this house calls. A reader of the promises may skip this file. Definitions only.
+--
+--   begins k s    where the field after k others begins in the bytes s; past their end where there is none
+--   gap s         where an empty field seven begins; past the end where there is none
+--   filled s at   the bytes s with a 2 put in at `at`; s itself where that is past the end
+--   Front t l n   the bytes t are the first n of l
+--
+-- Assumes nothing.
+use mathlib.Core.Path.{_≡_}
+use mathlib.Core.Bool.{cond}
+use mathlib.Core.List.{List, [], _∷_, _++_}
+use Prim.Native.Nat.{ℕ, zero, suc, _+_}
+use lib.Dec.{eqb, ltb}
+use lib.ListN.{length, take, drop}
+use Rattle.fields.specs.Fields.{lf, semicolon}
+use Rattle.fields.specs.Inner.{piece}
+
+unfoldable pub begins : ℕ → List ℕ → ℕ
+begins zero s = 0
+begins (suc k) [] = 1
+begins (suc k) (b ∷ s) = cond (eqb b lf) (length s + 2) (suc (cond (eqb b semicolon) (begins k s) (begins (suc k) s)))
+
+abbrev pub gapAt : List ℕ → ℕ → ℕ
+gapAt s at = cond (eqb (length (piece (drop at s))) 0) at (length s + 1)
+
+abbrev pub gap : List ℕ → ℕ
+gap s = gapAt s (begins 6 s)
+
+abbrev pub filled : List ℕ → ℕ → List ℕ
+filled s at = cond (ltb (length s) at) s (take at s ++ (50 ∷ drop at s))
+
+pub record Front (t l : List ℕ) (n : ℕ) : Type 0 where
+  pub long : n ≡ length t
+  pub front : take n l ≡ t

@@ -1,0 +1,4 @@
+pub mod Converter
+pub mod Calls
+pub mod Inner
+pub mod Laws

@@ -1,0 +1,69 @@
+// The line with a 2 put in where field seven is empty.
+use fields::cut;
+use orders::LONGEST_INPUT;
+ghost use mathlib.Core.Path.{_≡_};
+ghost use Prim.Native.Nat.{_≤_, _<_};
+ghost use lib.ListN.{length, take};
+ghost use Rattle.forms.specs.Forms.{longestInput};
+ghost use Rattle.converter.specs.Inner.{begins, Front, filled};
+ghost use Rattle.converter.specs.Inner.{gap as Inner·gap};
+
+// How many first bytes of the input decide.
+pub(crate) fn deciding(input: &[u8]) -> usize
+    ensures { λ r. ⌜ r ≤ length (now (input .entry)) ⌝ }
+    ensures { λ r. ⌜ r ≤ longestInput ⌝ }
+    ensures { λ r. ⌜ take r (now (input .entry)) ≡ take longestInput (now (input .entry)) ⌝ }
+{
+    if input.len() < LONGEST_INPUT {
+        return input.len();
+    }
+    LONGEST_INPUT
+}
+
+// Where field seven begins: after six semicolons; past the input where the line has not so many.
+fn seventh(input: &[u8]) -> usize
+    ensures { λ r. ⌜ r ≡ begins 6 (now (input .entry)) ⌝ }
+{
+    let mut left: u8 = 6;
+    let mut i = 0;
+    while left != 0 {
+        if input.len() <= i {
+            return input.len() + 1;
+        }
+        if input[i] == b'\n' {
+            return input.len() + 1;
+        }
+        if input[i] == b';' {
+            left -= 1;
+        }
+        i += 1;
+    }
+    i
+}
+
+// Where an empty field seven begins; past the input where there is none.
+fn gap(input: &[u8]) -> usize
+    ensures { λ r. ⌜ r ≡ Inner·gap (now (input .entry)) ⌝ }
+{
+    let at = seventh(input);
+    if cut::end(input, at) != at {
+        return input.len() + 1;
+    }
+    at
+}
+
+// The line at the front of a buffer, and how many bytes it has.
+pub(crate) fn fill(input: &[u8], line: &mut [u8]) -> usize
+    requires { ⌜ length (now input) < length (now line) ⌝ }
+    ensures { λ r. ⌜ Front (filled (now (input .entry)) (Inner·gap (now (input .entry)))) (now (line .exit)) r ⌝ }
+{
+    let at = gap(input);
+    if input.len() < at {
+        text::lay(line, 0, input);
+        return input.len();
+    }
+    text::lay(line, 0, &input[..at]);
+    text::lay(line, at, b"2");
+    text::lay(line, at + 1, &input[at..]);
+    input.len() + 1
+}
