@@ -82,10 +82,16 @@ full-longer s at = by-test (ltb (length s) at) refl
 -- a refusal has a number of at most two digits and a field of one
 refusal-few : (number field : ℕ) → number < 100 → field < 10 → length (refusalLine number field) ≤ longestLine
 refusal-few number field small few =
-    omega (arith, decimal-few 2 number (omega arith) small, decimal-few 1 field (omega arith) few,
+    omega (
+      arith,
+      decimal-few 2 number (omega arith) small,
+      decimal-few 1 field (omega arith) few,
       length-append (entry wordRefused number blank) (entry wordField field lf),
-      length-append wordRefused (counted number blank), length-append (decimal number) (blank ∷ []),
-      length-append wordField (counted field lf), length-append (decimal field) (lf ∷ []))
+      length-append wordRefused (counted number blank),
+      length-append (decimal number) (blank ∷ []),
+      length-append wordField (counted field lf),
+      length-append (decimal field) (lf ∷ []),
+    )
 
 listed-few : (number : ℕ) (ns : List ℕ) → List·Memᴰ number ns → number ≤ whole ns
 listed-few number (n ∷ ns) (List·Memᴰ·head e) = omega (arith, e)

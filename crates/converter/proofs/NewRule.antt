@@ -95,9 +95,9 @@ module _ (s : List ℕ) where
   one-to-six number field is low =
       ⊎-elim
       (λ (w : (j : ℕ) × ((field ≡ 1 + j) × FirstFault (fault ms) places 0 number j)).
-        earlier number (w .0) (omega (arith, w .1 .0)) (w .1 .1) ∙ ap (refused number) (sym (w .1 .0)))
+      earlier number (w .0) (omega (arith, w .1 .0)) (w .1 .1) ∙ ap (refused number) (sym (w .1 .0)))
       (λ (w : (scan (fault ms) 1 places passed ≡ passed) × (lastly ms (ended s) ≡ refused number field)).
-        absurd (omega (arith, after-seven (not (eqb (length ms) 7 && ended s)) (formIn ms) number field (w .1))))
+      absurd (omega (arith, after-seven (not (eqb (length ms) 7 && ended s)) (formIn ms) number field (w .1))))
       (refuses-first (fault ms) 0 (lastly ms (ended s)) 1 number field places is)
 
   seven : Empty s → ((number field : ℕ) → oldRead s ≡ refused number field → 7 ≤ field) → read s ≡ refused 23 7
@@ -109,7 +109,7 @@ module _ (s : List ℕ) where
           let far = late number field is in
           ⊎-elim
           (λ (w : (j : ℕ) × ((field ≡ 1 + j) × FirstFault (fault ms) places 0 number j)).
-            later (λ k less. w .1 .1 .before k (omega (arith, w .1 .0))) none)
+          later (λ k less. w .1 .1 .before k (omega (arith, w .1 .0))) none)
           (λ (w : (scan (fault ms) 1 places passed ≡ passed) × (lastly ms (ended s) ≡ refused number field)). later (from-passed (w .0)) none)
           (refuses-first (fault ms) 0 (lastly ms (ended s)) 1 number field places is)
 

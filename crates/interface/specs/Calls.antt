@@ -2,7 +2,7 @@
 -- Definitions only.
 --
 --   countOf o        the result of a call whose value is how many entries or bytes it wrote
---   PointsResult, UniformResult, AdaptResult, SharesResult, WriteResult, ReadResult, OrderResult
+--   PointsResult, UniformResult, AdaptResult, SharesResult, WriteResult, ReadResult, OrderResult, ConvertResult
 --                    the contracts, of a call that returned r, found the memory m and left m′
 --
 -- Assumes nothing.
@@ -23,6 +23,7 @@ use Rattle.format.specs.Reading.{Grid}
 use Rattle.writer.specs.Calls.{write}
 use Rattle.reader.specs.Calls.{read, sizeOf}
 use Rattle.orders.specs.Calls.{answer}
+use Rattle.converter.specs.Calls.{convert}
 use Rattle.results.specs.declared.NumberResult.{NumberResult}
 use Rattle.results.specs.declared.GridResult.{GridResult}
 use Rattle.results.specs.Results.{numberResult, passResult, gridResult}
@@ -57,3 +58,6 @@ ReadResult r bytes m m′ =
 
 abbrev pub OrderResult : NumberResult → List ℕ → List ℕ → List ℕ → Type 0
 OrderResult r input m m′ = Fulfils itself countOf written (answer input (length m)) r m m′
+
+abbrev pub ConvertResult : NumberResult → List ℕ → List ℕ → List ℕ → Type 0
+ConvertResult r input m m′ = Fulfils itself countOf written (convert input (length m)) r m m′

@@ -34,6 +34,9 @@ use Rattle.text.specs.Text.{longestOutput}
 use Rattle.orders.specs.Calls.{output}
 use Rattle.orders.specs.Calls as orders
 use Rattle.orders.proofs.Promised.{promised}
+use Rattle.converter.specs.Converter.{converted, longestLine}
+use Rattle.converter.specs.Calls as stored
+use Rattle.converter.proofs.Promised.{promised as stored-promised}
 use Rattle.forms.specs.Forms as forms
 use Rattle.promises.specs.Refusals.{Refuses}
 use Rattle.promises.specs.Demand1.{OnLists, OnParts, OfCalls}
@@ -100,6 +103,7 @@ on-parts =
           (same, f .memory ∙ stretch-one root level position m r s same at ∙ sym (g .memory));
       number = λ f. answer valueOf numbers (when (not (isNumber f)) 23 at0 (λ is. fine _));
       print = λ bytes m r s a b f g. (f .end ∙ sym (g .end), f .written ∙ sym (g .written));
+      lay-bytes = λ at bytes m r s a b f g. (refl, f ∙ sym g);
     }
 
 pub points-so : (l p i : ℕ) (r : Root) → Refuses (1 ∷ 5 ∷ 8 ∷ 24 ∷ []) 0 (cornerPoint l p i r)
@@ -123,6 +127,9 @@ forms-so input =
 pub orders-so : (input m : List ℕ) → Refuses (14 ∷ []) longestOutput (orders.answer input (length m))
 orders-so input m = room-so (length (output input)) (length m) (output input) at0 (promised .room input)
 
+pub stored-so : (input m : List ℕ) → Refuses (14 ∷ []) longestLine (stored.convert input (length m))
+stored-so input m = room-so (length (converted input)) (length m) (converted input) at0 (stored-promised .room input)
+
 pub of-calls : OfCalls
 of-calls =
     record {
@@ -133,6 +140,7 @@ of-calls =
       on-points = λ l p i r. answer pointOf points (points-so l p i r);
       on-sections = λ l ps i r m. lent passOf passes (λ (found : List Point). tt) filled (sections-so l ps i r m);
       on-orders = λ input m. lent valueOf numbers length written (orders-so input m);
+      on-stored = λ input m. lent valueOf numbers length written (stored-so input m);
       on-forms = λ input. answer formOf forms-read (forms-so input);
       field-from-1 = λ input number field e. read-refused input number field e .1 .0;
       on-parts = on-parts;

@@ -51,6 +51,7 @@ use Rattle.adaption.proofs.Promised as adaption
 use Rattle.shares.proofs.Promised as shares
 use Rattle.corners.proofs.Promised as corners
 use Rattle.orders.proofs.Promised as orders
+use Rattle.converter.proofs.Promised as converter
 use Rattle.promises.specs.Demand2.{Figure, lineFigure, triangleFigure, prismFigure, Elements, OfElements, OfLists, OfFiles, OfPoints, Demand2}
 use Rattle.promises.proofs.Flat.{returned}
 use Rattle.promises.proofs.OverC.{sections-over-c}
@@ -130,4 +131,4 @@ of-points =
     }
 
 pub demand-2 : Demand2
-demand-2 = record { of-elements = of-elements; of-lists = of-lists; of-files = of-files; of-points = of-points; of-orders = orders.promised }
+demand-2 = record { of-elements = of-elements; of-lists = of-lists; of-files = of-files; of-points = of-points; of-orders = orders.promised; of-stored = converter.promised }

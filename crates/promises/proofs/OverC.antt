@@ -28,7 +28,7 @@ use Rattle.promises.proofs.ElementCalls.{Rows}
 use Rattle.promises.proofs.ShapeCalls.{line-rows, triangle-rows, prism-rows}
 use Rattle.promises.proofs.ListCalls.{check-so, balanced-so, uniform-so, adapt-so, shares-so}
 use Rattle.promises.proofs.FileCalls.{read-so, write-so}
-use Rattle.promises.proofs.Demand1.{points-so, sections-so, orders-so}
+use Rattle.promises.proofs.Demand1.{points-so, sections-so, orders-so, stored-so}
 
 module _ {E R : Type 0} (S : Shape E) (faults : List ℕ) (kind : Kind R) (result : Outcome E → R) (is : Result kind result) where
   on-elements : said faults ≡ true → Rows S faults → ElementsOverC S kind result faults
@@ -80,6 +80,7 @@ over-c =
       on-points = λ l p i r. returns points pointResult point-result refl (points-so l p i r);
       on-sections = sections-over-c;
       on-orders = λ input m. flat numbers _ count-result written refl (orders-so input m);
+      on-stored = λ input m. flat numbers _ count-result written refl (stored-so input m);
       shown = shown;
-      low = record { of-lists = omega arith; of-files = omega arith; of-orders = omega arith };
+      low = record { of-lists = omega arith; of-files = omega arith; of-orders = omega arith; of-stored = omega arith };
     }

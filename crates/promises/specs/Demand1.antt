@@ -26,6 +26,7 @@ use mathlib.Core.Bool.{Bool}
 use mathlib.Core.List.{List, [], _∷_}
 use Prim.Native.Nat.{ℕ, _+_, _*_, _≤_}
 use lib.ListN.{length}
+use lib.Seq.{sets}
 use Rattle.paper.specs.Outcome.{Outcome, accepted, refused, same}
 use Rattle.paper.specs.Memory.{Decided, Spared}
 use Rattle.paper.specs.Readings.{valueOf, truthOf, comparisonOf, passOf, checksOf, Finds}
@@ -58,6 +59,8 @@ use Rattle.forms.specs.Forms.{formOf}
 use Rattle.text.specs.Text.{longestOutput}
 use Rattle.text.specs.Inner.{Put}
 use Rattle.orders.specs.Calls.{Answered}
+use Rattle.converter.specs.Converter.{longestLine}
+use Rattle.converter.specs.Calls.{Converts}
 use Rattle.tree.specs.Calls as calls
 use Rattle.fields.specs.Inner as fields
 use Rattle.forms.specs.Forms as forms
@@ -116,6 +119,7 @@ pub record OnParts : Type 0 where
   pub lay : (at k root level position : ℕ) (m : Columns) → Decided (λ count m′. Laid at k root level position count m m′)
   pub number : (f : List ℕ) → Answer valueOf (23 ∷ []) 0 (fields.number f)
   pub print : (bytes m : List ℕ) → Decided (λ end m′. Put bytes 0 m m′ end)
+  pub lay-bytes : (at : ℕ) (bytes m : List ℕ) → Decided (λ (r : Unit {0}) m′. m′ ≡ sets m at bytes)
 
 pub record OfCalls : Type 0 where
   pub on-lines : OnElements line lineOf (1 ∷ 2 ∷ [])
@@ -126,6 +130,7 @@ pub record OfCalls : Type 0 where
   pub on-sections : (l : ℕ) (ps : List ℕ) (i : ℕ) (r : Root) (m : PointColumns)
       → Call passOf (11 ∷ 1 ∷ 5 ∷ 8 ∷ 24 ∷ []) (length ps) m (λ a m′. SectionFilled l ps i r a m m′)
   pub on-orders : (input m : List ℕ) → Call valueOf (14 ∷ []) longestOutput m (λ r m′. Answered r input m m′)
+  pub on-stored : (input m : List ℕ) → Call valueOf (14 ∷ []) longestLine m (λ r m′. Converts r input m m′)
   pub on-forms : (input : List ℕ) → Answer formOf (1 ∷ 15 ∷ 17 ∷ 23 ∷ []) 8 (forms.read input)
   pub field-from-1 : (input : List ℕ) (number field : ℕ) → forms.read input ≡ refused number field → 1 ≤ field
   pub on-parts : OnParts

@@ -15,7 +15,8 @@
 --                 answers at position k (`Drawn`, `corners/specs/SectionLaws.antt`)
 --   Demand2       all of it, with corner points (the exact value and no other, the bound, the root's own corners, one point for one local corner, a
 --                 whole section as the single calls one by one) and orders (when one is accepted, the first 71 bytes decide, its fields are
---                 repeated, its shares are the list's own, its numbers read back, its output has room)
+--                 repeated, its shares are the list's own, its numbers read back, its output has room) and stored orders (where today's rule and
+--                 the old one part, and what the converter makes of every line)
 --
 -- Assumes nothing.
 use mathlib.Core.Bool.{Bool}
@@ -61,6 +62,7 @@ use Rattle.adaption.specs.Laws as adaption
 use Rattle.shares.specs.Laws as shares
 use Rattle.corners.specs.Laws as corners
 use Rattle.orders.specs.Laws as orders
+use Rattle.converter.specs.Laws as converter
 use Rattle.promises.specs.Refusals.{Refuses}
 use Rattle.promises.specs.Accepts as lists
 
@@ -165,3 +167,4 @@ pub record Demand2 : Type 0 where
   pub of-files : OfFiles
   pub of-points : OfPoints
   pub of-orders : orders.Promised
+  pub of-stored : converter.Promised

@@ -7,7 +7,7 @@
 --   ElementsOverC S k f fs   the functions on the elements of a shape, whose element results are f, of kind k; fs are the numbers of the checks on an
 --                     element
 --   ListsOverC        the functions on lists and files
---   Low               the largest places of the list, file and order calls are below 2^56, so that `Word` reads them back; those of points and
+--   Low               the largest places of the list, file, order and converter calls are below 2^56, so that `Word` reads them back; those of points and
 --                     elements are 0 or 1, but a family's, which is at most the number of elements, and a section's, at most that of positions
 --   OverC             all of it, and what the result of an accepted outcome holds (`Shown` of `results/specs/Laws.antt`)
 --
@@ -37,9 +37,11 @@ use Rattle.corners.specs.CornerPoints.{cornerPoint}
 use Rattle.corners.specs.Section.{PointColumns, cornerPoints}
 use Rattle.text.specs.Text.{longestOutput}
 use Rattle.orders.specs.Calls.{answer}
+use Rattle.converter.specs.Converter.{longestLine}
+use Rattle.converter.specs.Calls.{convert}
 use Rattle.results.specs.Results.{lineResult, triangleResult, prismResult, numberResult, truthResult, compareResult, passResult, pointResult}
 use Rattle.results.specs.Laws.{Kind, lines, triangles, prisms, numbers, comparisons, points, grids, words, Word, Shown}
-use Rattle.interface.specs.Calls.{PointsResult, UniformResult, AdaptResult, SharesResult, WriteResult, ReadResult, OrderResult}
+use Rattle.interface.specs.Calls.{PointsResult, UniformResult, AdaptResult, SharesResult, WriteResult, ReadResult, OrderResult, ConvertResult}
 use Rattle.tree.specs.Calls as calls
 use Rattle.promises.specs.Demand1.{filed}
 
@@ -84,6 +86,7 @@ pub record Low : Type 0 where
   pub of-lists : limit < 2 ^ 56
   pub of-files : filed < 2 ^ 56
   pub of-orders : longestOutput < 2 ^ 56
+  pub of-stored : longestLine < 2 ^ 56
 
 pub record OverC : Type 0 where
   pub on-lines : ElementsOverC line lines lineResult (1 ∷ 2 ∷ [])
@@ -94,5 +97,6 @@ pub record OverC : Type 0 where
   pub on-sections : (l : ℕ) (ps : List ℕ) (i : ℕ) (r : Root) (m : PointColumns)
       → Flat words (11 ∷ 1 ∷ 5 ∷ 8 ∷ 24 ∷ []) (length ps) (cornerPoints l ps i r m) m (λ a m′. PointsResult l ps i r a m m′)
   pub on-orders : (input m : List ℕ) → Flat numbers (14 ∷ []) longestOutput (answer input (length m)) m (λ r m′. OrderResult r input m m′)
+  pub on-stored : (input m : List ℕ) → Flat numbers (14 ∷ []) longestLine (convert input (length m)) m (λ r m′. ConvertResult r input m m′)
   pub shown : Shown
   pub low : Low
