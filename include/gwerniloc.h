@@ -63,7 +63,7 @@ enum gw_refusal_number {
     GW_BAD_FILE_NUMBER = 20,     /* number not shortest, or third byte with top bit */
     GW_BAD_RUN = 21,             /* number of runs outside 1 to GW_MOST_LEAVES; run of 0; level as in the run before */
     GW_BYTES_LEFT = 22,          /* bytes after the last run */
-    GW_BAD_FIELD = 23,           /* order field: only in what gw_order prints */
+    GW_BAD_FIELD = 23,           /* order field: only in what gw_order and gw_convert print */
     GW_BAD_ROOT_CORNER = 24      /* root corner outside -512 to 512 */
 };
 
@@ -75,6 +75,7 @@ enum gw_refusal_number {
 #define GW_MOST_ROOTS 4096        /* and shares */
 #define GW_MOST_ORDER_INPUT 71    /* bytes of an order's input that decide */
 #define GW_MOST_ORDER_OUTPUT 86212 /* bytes that an order's output never exceeds */
+#define GW_MOST_ORDER_LINE 45     /* bytes that a converted order line, or its refusal, never exceeds */
 
 #define GW_LINE_CHILDREN 2
 #define GW_LINE_FACES 2
@@ -366,12 +367,18 @@ gw_number_result gw_file_write(uint16_t k, const uint16_t *root, size_t root_len
 gw_grid_result gw_file_read(const uint8_t *bytes, size_t bytes_length, uint16_t *root, size_t root_length, uint8_t *level,
                             size_t level_length, uint64_t *position, size_t position_length);
 
-/* ---- the order program */
+/* ---- the order program, and the converter of stored order lines */
 
 /** What the program `order` prints on an input, at the front of the buffer, and nothing behind it. The value is how many
- *  bytes, never more than 86,212; the first 71 bytes of the input decide. A line that the program refuses is answered with
- *  its one line of refusal. Refuses: 14 no room, place = the bytes needed. */
+ *  bytes, never more than 86,212; the first 71 bytes of the input decide. A line that the program refuses, one with an empty
+ *  field among them, is answered with its one line of refusal. Refuses: 14 no room, place = the bytes needed. */
 gw_number_result gw_order(const uint8_t *input, size_t input_length, uint8_t *out, size_t out_length);
+
+/** What the program `convert` prints on an input, at the front of the buffer, and nothing behind it: a stored order line with
+ *  the 2 that its empty field seven meant; or the line as it is, where field seven is filled; or, for a line that was refused
+ *  also when an empty field seven meant 2, its one line of refusal by that rule. The value is how many bytes, never more than
+ *  45; the first 71 bytes of the input decide. Refuses: 14 no room, place = the bytes needed. */
+gw_number_result gw_convert(const uint8_t *input, size_t input_length, uint8_t *out, size_t out_length);
 
 #ifdef __cplusplus
 }

@@ -7,7 +7,7 @@
 //!
 //! [`plain`] has the same calls once more, unproved. It is the second opinion of the tests and the yardstick of the
 //! benchmark; programs use the methods of the three types, [`corner_point`], [`corner_points`], [`check_list`],
-//! [`uniform`], [`adapt`], [`balanced`], [`shares`], [`write_file`] and [`read_file`].
+//! [`uniform`], [`adapt`], [`balanced`], [`shares`], [`write_file`], [`read_file`], [`order`] and [`convert`].
 
 #![warn(missing_docs)]
 
@@ -24,7 +24,7 @@ mod points;
 pub use answer::{Answer, Refusal};
 pub use files::{read_file, write_file, Size};
 pub use lists::{adapt, balanced, check_list, shares, uniform};
-pub use orders::{order, LONGEST_OUTPUT};
+pub use orders::{convert, order, LONGEST_LINE, LONGEST_OUTPUT};
 pub use points::{corner_point, corner_points, Corner, Point, Root};
 
 /// The highest level of all three shapes.

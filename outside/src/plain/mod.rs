@@ -1,5 +1,5 @@
-//! The calls once more, as a C programmer would write them: constant tables, a loop over the levels, one over a list; and
-//! for a section a second way, without a loop over the levels.
+//! The calls once more, as a C programmer would write them: constant tables, a loop over the levels, one over a list, one
+//! over the bytes of an order line; and for a section a second way, without a loop over the levels.
 //!
 //! Written from the rules alone and not from the proved source, so that the tests hear a second opinion. The calls
 //! take and return what the C interface does, by the same convention, so that the benchmark compares like with like.
@@ -11,10 +11,12 @@ pub mod balance;
 pub mod file;
 pub mod line;
 pub mod list;
+pub mod orders;
 pub mod point;
 pub mod prism;
 pub mod section;
 pub mod shares;
+mod text;
 pub mod triangle;
 
 const HIGHEST: u8 = crate::HIGHEST_LEVEL;

@@ -16,6 +16,7 @@ pub mod leaves;
 pub mod lent;
 pub mod marks;
 pub mod naive;
+pub mod orders;
 pub mod points;
 pub mod random;
 pub mod sample;

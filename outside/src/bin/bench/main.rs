@@ -1,10 +1,11 @@
-//! Nanoseconds a call, for lists a leaf and for sections a point, proved and plain, in one run:
+//! Nanoseconds a call, for lists a leaf, for sections a point and for orders a line, proved and plain, in one run:
 //! `cargo run --release --bin bench`. Not a test: nothing can fail.
 //!
 //! Both sides are called the same way, by value or with lent columns, and never inlined.
 
 mod elements;
 mod lists;
+mod orders;
 mod points;
 mod section;
 
@@ -29,4 +30,6 @@ fn main() {
     lists::rows(&mut random);
     println!();
     section::rows(&mut random);
+    println!();
+    orders::rows(&mut random);
 }
