@@ -4,6 +4,7 @@
 --   gap s         where an empty field seven begins; past the end where there is none
 --   filled s at   the bytes s with a 2 put in at `at`; s itself where that is past the end
 --   Front t l n   the bytes t are the first n of l
+--   kept t        what is printed for a line t without a gap: t itself where it is an order, else its refusal
 --
 -- Assumes nothing.
 use mathlib.Core.Path.{_≡_}
@@ -14,6 +15,10 @@ use lib.Dec.{eqb, ltb}
 use lib.ListN.{length, take, drop}
 use Rattle.fields.specs.Fields.{lf, semicolon}
 use Rattle.fields.specs.Inner.{piece}
+use Rattle.paper.specs.Outcome.{Outcome, accepted, refused}
+use Rattle.forms.specs.declared.Form.{Form}
+use Rattle.forms.specs.Forms.{read}
+use Rattle.text.specs.Text.{refusalLine}
 
 unfoldable pub begins : ℕ → List ℕ → ℕ
 begins zero s = 0
@@ -28,6 +33,13 @@ gap s = gapAt s (begins 6 s)
 
 abbrev pub filled : List ℕ → ℕ → List ℕ
 filled s at = cond (ltb (length s) at) s (take at s ++ (50 ∷ drop at s))
+
+abbrev pub keptBy : Outcome Form → List ℕ → List ℕ
+keptBy (accepted f) t = t
+keptBy (refused number field) t = refusalLine number field
+
+abbrev pub kept : List ℕ → List ℕ
+kept t = keptBy (read t) t
 
 pub record Front (t l : List ℕ) (n : ℕ) : Type 0 where
   pub long : n ≡ length t

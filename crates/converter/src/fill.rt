@@ -42,7 +42,7 @@ fn seventh(input: &[u8]) -> usize
 }
 
 // Where an empty field seven begins; past the input where there is none.
-fn gap(input: &[u8]) -> usize
+pub(crate) fn gap(input: &[u8]) -> usize
     ensures { λ r. ⌜ r ≡ Inner·gap (now (input .entry)) ⌝ }
 {
     let at = seventh(input);
@@ -52,16 +52,12 @@ fn gap(input: &[u8]) -> usize
     at
 }
 
-// The line at the front of a buffer, and how many bytes it has.
-pub(crate) fn fill(input: &[u8], line: &mut [u8]) -> usize
+// The line with a 2 put in at `at`, at the front of a buffer, and how many bytes it has.
+pub(crate) fn fill(input: &[u8], at: usize, line: &mut [u8]) -> usize
+    requires { ⌜ at ≤ length (now input) ⌝ }
     requires { ⌜ length (now input) < length (now line) ⌝ }
-    ensures { λ r. ⌜ Front (filled (now (input .entry)) (Inner·gap (now (input .entry)))) (now (line .exit)) r ⌝ }
+    ensures { λ r. ⌜ Front (filled (now (input .entry)) at) (now (line .exit)) r ⌝ }
 {
-    let at = gap(input);
-    if input.len() < at {
-        text::lay(line, 0, input);
-        return input.len();
-    }
     text::lay(line, 0, &input[..at]);
     text::lay(line, at, b"2");
     text::lay(line, at + 1, &input[at..]);

@@ -2,11 +2,9 @@
 // `specs/Calls.antt`.
 use forms::FormAnswer;
 use paper::NumberAnswer;
-ghost use mathlib.Core.Path.{_≡_};
-ghost use lib.ListN.{length};
-ghost use Rattle.converter.specs.Converter.{converted as Converter·converted};
+ghost use Rattle.text.specs.Inner.{Prints};
 ghost use Rattle.converter.specs.Calls.{Converts};
-ghost use Rattle.converter.specs.Inner.{Front};
+ghost use Rattle.converter.specs.Inner.{kept as Inner·kept};
 
 mod fill;
 
@@ -16,17 +14,25 @@ pub const LONGEST_LINE: usize = 45;
 // The longest input, and the 2.
 const ROOM: usize = 72;
 
-// What is printed, at the front of a buffer, and how many bytes that is. The old rule is today's on the line with the 2 put in.
-fn converted(input: &[u8], line: &mut [u8]) -> usize
-    requires { ⌜ length (now line) ≡ 72 ⌝ }
-    ensures { λ r. ⌜ Front (Converter·converted (now (input .entry))) (now (line .exit)) r ⌝ }
+// The line as it is, where it fits. Refused: 14, with the bytes needed.
+fn copied(line: &[u8], out: &mut [u8]) -> NumberAnswer
+    ensures { λ r. ⌜ Prints (now (line .entry)) r (now (out .entry)) (now (out .exit)) ⌝ }
 {
-    let n = fill::deciding(input);
-    let size = fill::fill(&input[..n], line);
-    let asked = forms::read(&line[..size]);
+    if out.len() < line.len() {
+        return NumberAnswer::Refused(14, line.len() as u64);
+    }
+    text::lay(out, 0, line);
+    NumberAnswer::Is(line.len() as u64)
+}
+
+// A line without a gap: itself where today's program accepts it, else its refusal.
+fn kept(line: &[u8], out: &mut [u8]) -> NumberAnswer
+    ensures { λ r. ⌜ Prints (Inner·kept (now (line .entry))) r (now (out .entry)) (now (out .exit)) ⌝ }
+{
+    let asked = forms::read(line);
     match asked {
-        FormAnswer::Is(_) => size,
-        FormAnswer::Refused(_, _) => text::print(asked, line),
+        FormAnswer::Is(_) => copied(line, out),
+        FormAnswer::Refused(_, _) => text::answer(asked, out),
     }
 }
 
@@ -34,11 +40,13 @@ fn converted(input: &[u8], line: &mut [u8]) -> usize
 pub fn convert(input: &[u8], out: &mut [u8]) -> NumberAnswer
     ensures { λ r. ⌜ Converts r (now (input .entry)) (now (out .entry)) (now (out .exit)) ⌝ }
 {
-    let mut line = [0u8; ROOM];
-    let size = converted(input, &mut line);
-    if out.len() < size {
-        return NumberAnswer::Refused(14, size as u64);
+    let n = fill::deciding(input);
+    let at = fill::gap(&input[..n]);
+    if n < at {
+        return kept(&input[..n], out);
     }
-    text::lay(out, 0, &line[..size]);
-    NumberAnswer::Is(size as u64)
+    // The old rule is today's on the line with the 2 put in.
+    let mut line = [0u8; ROOM];
+    let size = fill::fill(&input[..n], at, &mut line);
+    kept(&line[..size], out)
 }

@@ -13,12 +13,8 @@ pub fn answer(input: &[u8], out: &mut [u8]) -> NumberAnswer
     ensures { λ r. ⌜ Answered r (now (input .entry)) (now (out .entry)) (now (out .exit)) ⌝ }
 {
     let asked = forms::read(input);
-    // The first time for the length alone: nothing is written before it is known to fit.
-    let mut none = [0u8; 1];
-    let size = text::print(asked, &mut none);
-    if out.len() < size {
-        return NumberAnswer::Refused(14, size as u64);
+    if out.len() < LONGEST_OUTPUT {
+        return text::answer(asked, out);
     }
-    text::print(asked, out);
-    NumberAnswer::Is(size as u64)
+    NumberAnswer::Is(text::print(asked, out) as u64)
 }

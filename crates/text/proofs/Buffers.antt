@@ -10,18 +10,15 @@ use lib.Dec.{ltb}
 use lib.ListN.{length, take, drop}
 use lib.Seq.{sets, sets-eq, length-take-le}
 use borrow.Author.Tests.{lt-ltb, le-ltb, ltb-false}
-use Rattle.paper.specs.Outcome.{accepted, refused, mapped}
-use Rattle.paper.specs.Memory.{written, roomFor, Fulfils}
+use Rattle.paper.specs.Outcome.{accepted, refused}
+use Rattle.paper.specs.Memory.{written, roomFor}
 use Rattle.paper.specs.Readings.{valueOf}
 use Rattle.paper.specs.declared.NumberAnswer.{NumberAnswer}
 use Rattle.paper.specs.declared.NumberAnswer.the-variants as number
 use Rattle.paper.proofs.Front.{written-length}
 use Rattle.paper.proofs.Memory.{refuses, accepts}
 use Rattle.paper.proofs.Scan.{never}
-
--- the contract of such a call, for the bytes t
-abbrev pub Prints : List ℕ → NumberAnswer → List ℕ → List ℕ → Type 0
-Prints t r m m′ = Fulfils valueOf (mapped length) written (roomFor (length t) (length m) t) r m m′
+use Rattle.text.specs.Inner.{Prints}
 
 -- ---- each way out of the call
 pub laid : (t m : List ℕ) → length t ≤ length m → sets m 0 t ≡ written t m

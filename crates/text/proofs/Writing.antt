@@ -1,10 +1,13 @@
 -- Bytes put one run after another are put as one run. Assumes nothing.
 use mathlib.Core.Path.{_≡_, refl, ap, ap₂, _∙_, sym}
+use mathlib.Core.Bool.{Bool, true, false}
 use mathlib.Core.List.{List, [], _∷_, _++_}
-use Prim.Native.Nat.{ℕ, suc, _+_, _≤_, _<_}
+use Prim.Native.Nat.{ℕ, suc, _+_, _-_, _≤_, _<_, min}
 use native.Mathlib.Numerals.{add-one}
 use native.Mathlib.Omega.{arith}
-use lib.ListN.{length, getD, set, take, length-append}
+use lib.Dec.{leb}
+use lib.ListN.{length, getD, set, take, drop, length-append, take-append-drop}
+use borrow.Author.Tests.{leb-true, leb-false}
 use lib.Seq.{sets, length-sets, set-out, take-suc, length-take-le, take-all}
 use Rattle.paper.proofs.Front.{sets-append}
 use Rattle.text.specs.Inner.{Put}
@@ -33,13 +36,24 @@ bytes-out (b ∷ t) l at past = bytes-out t l (suc at) (omega arith) ∙ ap (λ 
 
 -- ---- some bytes, one by one
 module _ (l t : List ℕ) (at : ℕ) where
-  pub word-more : (m m′ : List ℕ) (i : ℕ) → i < length t → m ≡ sets l at (take i t) → m′ ≡ set m (at + i) (getD t i 0) → m′ ≡ sets l at (take (i + 1) t)
-  word-more m m′ i inside so-far stored =
+  pub byte-more : (m m′ : List ℕ) (i : ℕ) → i < length t → m ≡ sets l at (take i t) → m′ ≡ set m (at + i) (getD t i 0) → m′ ≡ sets l at (take (i + 1) t)
+  byte-more m m′ i inside so-far stored =
       let long : length (take i t) ≡ i = length-take-le i t (omega arith) in
       stored
       ∙ ap₂ (λ (k : List ℕ) (j : ℕ). set k (at + j) (getD t i 0)) so-far (sym long)
       ∙ sets-append l at (take i t) (getD t i 0 ∷ [])
       ∙ ap (sets l at) (sym (ap (λ (j : ℕ). take j t) (add-one i) ∙ take-suc t i 0 inside))
 
-  pub word-done : (m : List ℕ) (i : ℕ) → length t ≤ i → m ≡ sets l at (take i t) → m ≡ sets l at t
-  word-done m i past so-far = so-far ∙ ap (sets l at) (take-all i t past)
+  -- all of them, or as many as fit
+  pub bytes-done : (m : List ℕ) (i : ℕ) → min (length t) (length l - at) ≤ i → m ≡ sets l at (take i t) → m ≡ sets l at t
+  bytes-done m i past so-far = by-length (leb (length t) i) refl
+    where
+      by-length : (x : Bool) → leb (length t) i ≡ x → m ≡ sets l at t
+      by-length true e = so-far ∙ ap (sets l at) (take-all i t (leb-true (length t) i e))
+      by-length false e =
+          let short = leb-false (length t) i e in
+          let long : length (take i t) ≡ i = length-take-le i t (omega arith) in
+          so-far
+          ∙ bytes-out (drop i t) (sets l at (take i t)) (at + length (take i t)) (omega (arith, length-sets l at (take i t), long))
+          ∙ sets-append l at (take i t) (drop i t)
+          ∙ ap (sets l at) (take-append-drop i t)

@@ -2,15 +2,16 @@
 // short buffer finds how many there are.
 use forms::Form;
 use forms::FormAnswer;
+use paper::NumberAnswer;
 ghost use mathlib.Core.Path.{_≡_};
-ghost use Prim.Native.Nat.{_+_, _*_, _/_, _^_, _≤_, _<_};
+ghost use Prim.Native.Nat.{_+_, _*_, _/_, _^_, _≤_, _<_, min};
 ghost use lib.ListN.{length, set};
 ghost use lib.Seq.{sets};
 ghost use Rattle.forms.specs.Forms.{formOf};
 ghost use Rattle.text.specs.Text.{counted, shareLine, shareLines, firstLine, refusalLine};
 ghost use Rattle.text.specs.Text.{decimal as Text·decimal};
 ghost use Rattle.text.specs.Text.{entry as Text·entry};
-ghost use Rattle.text.specs.Inner.{Put, spelled};
+ghost use Rattle.text.specs.Inner.{Put, Prints, spelled};
 
 // One byte.
 fn put(out: &mut [u8], at: usize, b: u8)
@@ -21,6 +22,16 @@ fn put(out: &mut [u8], at: usize, b: u8)
     }
 }
 
+// How many of so many bytes fit.
+fn fitting(n: usize, room: usize) -> usize
+    ensures { λ r. ⌜ r ≡ min n room ⌝ }
+{
+    if n < room {
+        return n;
+    }
+    room
+}
+
 // Some bytes, from `at` on.
 pub fn lay(out: &mut [u8], at: usize, text: &[u8])
     ensures { λ _. ⌜ now (out .exit) ≡ sets (now (out .entry)) at (now (text .entry)) ⌝ }
@@ -28,9 +39,10 @@ pub fn lay(out: &mut [u8], at: usize, text: &[u8])
     if out.len() <= at {
         return;
     }
+    let n = fitting(text.len(), out.len() - at);
     let mut i = 0;
-    while i < text.len() {
-        put(out, at + i, text[i]);
+    while i < n {
+        out[at + i] = text[i];
         i += 1;
     }
 }
@@ -141,4 +153,18 @@ pub fn print(asked: FormAnswer, out: &mut [u8]) -> usize
         }
         FormAnswer::Refused(fault, field) => refusal(out, fault, field),
     }
+}
+
+// The same, where it fits. Refused: 14, with the bytes needed.
+pub fn answer(asked: FormAnswer, out: &mut [u8]) -> NumberAnswer
+    ensures { λ r. ⌜ Prints (spelled (formOf asked)) r (now (out .entry)) (now (out .exit)) ⌝ }
+{
+    // The first time for the length alone: nothing is written before it is known to fit.
+    let mut none = [0u8; 1];
+    let size = print(asked, &mut none);
+    if out.len() < size {
+        return NumberAnswer::Refused(14, size as u64);
+    }
+    print(asked, out);
+    NumberAnswer::Is(size as u64)
 }

@@ -1,54 +1,101 @@
--- `convert` meets its contract: the bytes that are printed, where they fit. Assumes nothing.
+-- `convert` meets its contract: a line without a gap is kept, and so is one whose gap is filled. Assumes nothing.
 use mathlib.Core.Path.{sym}
+use native.Mathlib.Omega.{arith}
+use lib.ListN.{length-take}
 use lib.Seq.{length-take-le}
-use Rattle.converter.proofs.Fronts.{front-within, not-converted, converts}
+use Rattle.converter.proofs.Fronts.{front-within, converts-as-is, converts-filled}
 use borrow.Author.Needs.{needs}
 use Rattle.converter.proofs.convert.Statement.{statement}
 use Rattle.converter.proofs.convert.Tie as tie
 
-slice-aggregate-converted : tie.Need-slice-aggregate-converted
-slice-aggregate-converted c = search needs
+deciding-requires : tie.Need-deciding-requires
+deciding-requires c κs = search needs
 
-converted-requires : tie.Need-converted-requires
-converted-requires c κs = search needs
+slice-aggregate-gap : tie.Need-slice-aggregate-gap
+slice-aggregate-gap c =
+    let at-deciding = c .before in
+    sym (length-take-le (at-deciding .deciding .result) (at-deciding .before .before .before .args .input .now) (at-deciding .deciding .ensures .0))
 
-returns : tie.Need-returns
-returns c =
-    let at-converted = c .before .before in
-    let a = at-converted .before .before .before .before .args in
-    not-converted (a .input .now) (a .out .now) (at-converted .converted .ensures) (c .if1 .taken)
+gap-requires : tie.Need-gap-requires
+gap-requires c κs = search needs
 
-array-share-prefix-line : tie.Need-array-share-prefix-line
-array-share-prefix-line c = front-within (c .before .before .before .converted .ensures)
+slice-aggregate-kept : tie.Need-slice-aggregate-kept
+slice-aggregate-kept c =
+    let at-deciding = c .before .before .before .before in
+    sym (length-take-le (at-deciding .deciding .result) (at-deciding .before .before .before .args .input .now) (at-deciding .deciding .ensures .0))
 
-slice-aggregate-lay : tie.Need-slice-aggregate-lay
-slice-aggregate-lay c =
-    let at-converted = c .before .before .before .before in
-    sym (length-take-le (at-converted .converted .result) _ (front-within (at-converted .converted .ensures)))
-
-lay-requires : tie.Need-lay-requires
-lay-requires c κs = search needs
+kept-requires : tie.Need-kept-requires
+kept-requires c κs = search needs
 
 same-length : tie.Need-same-length
 same-length c = search needs
 
+returns : tie.Need-returns
+returns c =
+    let at-kept = c .before .before in
+    let at-if1 = at-kept .before .before .before in
+    let at-gap = at-if1 .before in
+    let at-deciding = at-gap .before .before in
+    let a = at-deciding .before .before .before .args in
+    let long = length-take-le (at-deciding .deciding .result) (a .input .now) (at-deciding .deciding .ensures .0) in
+    converts-as-is (a .input .now) _ (at-deciding .deciding .ensures .1 .1) (at-gap .gap .result) (at-gap .gap .ensures) _ (a .out .now) _
+    (omega (arith, at-if1 .if1 .taken, long)) (at-kept .kept .ensures)
+
+slice-aggregate-fill : tie.Need-slice-aggregate-fill
+slice-aggregate-fill c =
+    let at-deciding = c .before .before .before .before in
+    sym (length-take-le (at-deciding .deciding .result) (at-deciding .before .before .before .args .input .now) (at-deciding .deciding .ensures .0))
+
+slice-aggregate-fill-2 : tie.Need-slice-aggregate-fill-2
+slice-aggregate-fill-2 c = search needs
+
+fill-requires : tie.Need-fill-requires
+fill-requires c κs =
+    let at-if1 = c .before .before in
+    let at-deciding = at-if1 .before .before .before in
+    let long = length-take-le (at-deciding .deciding .result) (at-deciding .before .before .before .args .input .now) (at-deciding .deciding .ensures .0) in
+    (omega (arith, at-if1 .if1 .left, long), omega (arith, at-deciding .deciding .ensures .1 .0, long))
+
+array-share-prefix-line : tie.Need-array-share-prefix-line
+array-share-prefix-line c = front-within (c .before .fill .ensures)
+
+slice-aggregate-kept-2 : tie.Need-slice-aggregate-kept-2
+slice-aggregate-kept-2 c =
+    let at-fill = c .before .before in
+    sym (length-take-le (at-fill .fill .result) _ (front-within (at-fill .fill .ensures)))
+
+kept-requires-2 : tie.Need-kept-requires-2
+kept-requires-2 c κs = search needs
+
+same-length-2 : tie.Need-same-length-2
+same-length-2 c = search needs
+
 returns-2 : tie.Need-returns-2
 returns-2 c =
-    let at-lay = c .before .before in
-    let at-if1 = at-lay .before .before .before in
-    let at-converted = at-if1 .before .before in
-    let a = at-converted .before .before .before .before .args in
-    converts (a .input .now) (a .out .now) (at-converted .converted .ensures) _ (at-if1 .if1 .left) (at-lay .lay .ensures)
+    let at-kept = c .before .before in
+    let at-fill = at-kept .before .before .before .before in
+    let at-gap = at-fill .before .before .before .before in
+    let at-deciding = at-gap .before .before in
+    let a = at-deciding .before .before .before .args in
+    converts-filled (a .input .now) _ (at-deciding .deciding .ensures .1 .1) (at-gap .gap .result) (at-gap .gap .ensures) _ (a .out .now) _
+    (at-fill .fill .ensures) (at-kept .kept2 .ensures)
 
 pub convert-spec : {M : Type 1} → statement M
 convert-spec =
     tie.close
     (tie.spec
-    slice-aggregate-converted
-    converted-requires
-    returns
-    array-share-prefix-line
-    slice-aggregate-lay
-    lay-requires
+    deciding-requires
+    slice-aggregate-gap
+    gap-requires
+    slice-aggregate-kept
+    kept-requires
     same-length
+    returns
+    slice-aggregate-fill
+    slice-aggregate-fill-2
+    fill-requires
+    array-share-prefix-line
+    slice-aggregate-kept-2
+    kept-requires-2
+    same-length-2
     returns-2)
