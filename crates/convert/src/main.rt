@@ -1,5 +1,5 @@
-// The converter: reads one stored order line from standard input and prints it as the order program wants it today, or the old refusal. The
-// first bytes of the input decide, and no output is longer than the buffer (`converter`, `specs/Laws.antt`).
+// The converter: reads one stored order line from standard input and prints it with the 2 that an empty field seven meant, or the old refusal.
+// The first bytes of the input decide, and no output is longer than the buffer (`converter`, `specs/Laws.antt`).
 use converter::LONGEST_LINE;
 use orders::LONGEST_INPUT;
 use paper::NumberAnswer;

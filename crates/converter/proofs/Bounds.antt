@@ -22,7 +22,7 @@ use Rattle.forms.proofs.Refusals.{read-refused}
 use Rattle.text.specs.Text.{blank, decimal, counted, entry, wordRefused, wordField, refusalLine}
 use Rattle.text.proofs.Decimals.{decimal-few}
 use Rattle.text.proofs.Repeating.{decimal-value}
-use Rattle.converter.specs.Converter.{seventh, asMeant, oldRead, line, convertedBy, converted, longestLine}
+use Rattle.converter.specs.Converter.{two, seventh, asMeant, oldRead, line, converted, longestLine}
 use Rattle.converter.specs.Inner.{gap, filled}
 use Rattle.converter.proofs.Filling.{meantAt}
 use Rattle.converter.proofs.Lines.{line-fields, whole, line-few}
@@ -77,7 +77,7 @@ full-longer s at = by-test (ltb (length s) at) refl
   where
     by-test : (t : Bool) → ltb (length s) at ≡ t → length s ≤ length (filled s at)
     by-test true e = simp e (omega arith)
-    by-test false e = simp e (omega (arith, length-append (take at s) (50 ∷ drop at s), length-take at s, length-drop at s))
+    by-test false e = simp e (omega (arith, length-append (take at s) (two ∷ drop at s), length-take at s, length-drop at s))
 
 -- a refusal has a number of at most two digits and a field of one
 refusal-few : (number field : ℕ) → number < 100 → field < 10 → length (refusalLine number field) ≤ longestLine

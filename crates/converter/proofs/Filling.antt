@@ -10,7 +10,7 @@ use borrow.Author.Tests.{lt-ltb, le-ltb, eqb-true, eqb-false, ltb-true, ltb-fals
 use Rattle.fields.specs.Fields.{lf, semicolon, grown, fields, ended}
 use Rattle.fields.specs.Inner.{piece}
 use Rattle.fields.proofs.Cutting.{rest, later, cut}
-use Rattle.converter.specs.Converter.{seventh, asMeant}
+use Rattle.converter.specs.Converter.{two, seventh, asMeant}
 use Rattle.converter.specs.Inner.{begins, gapAt, gap, filled}
 
 -- the fields with an empty one after k others as what field seven means
@@ -78,11 +78,11 @@ module _ (s : List ℕ) where
   abbrev parts : List (List ℕ)
   parts = piece s ∷ later (rest s)
 
-  fills-empty : length (piece s) ≡ 0 → Fills 0 s (50 ∷ s)
+  fills-empty : length (piece s) ≡ 0 → Fills 0 s (two ∷ s)
   unfolding fields ended
   fills-empty none =
       record {
-        same-fields = ap (grown 50) (cut s .first) ∙ ap (λ (f : List ℕ). (50 ∷ f) ∷ later (rest s)) (none-of (piece s) none)
+        same-fields = ap (grown two) (cut s .first) ∙ ap (λ (f : List ℕ). (two ∷ f) ∷ later (rest s)) (none-of (piece s) none)
             ∙ sym (ap (meantAt 0) (cut s .first) ∙ ap (λ (f : List ℕ). seventh f ∷ later (rest s)) (none-of (piece s) none));
         same-end = refl;
       }
@@ -100,7 +100,7 @@ module _ (s : List ℕ) where
     where
       by-test : (t : Bool) → eqb (length (piece s)) 0 ≡ t → Fills 0 s (filled s (gapAt s 0))
       by-test true e =
-          let is : filled s (gapAt s 0) ≡ 50 ∷ s = simp (e, le-ltb (length s) 0 (omega arith)) in
+          let is : filled s (gapAt s 0) ≡ two ∷ s = simp (e, le-ltb (length s) 0 (omega arith)) in
           subst⁻¹ (Fills 0 s) is (fills-empty (eqb-true (length (piece s)) 0 e))
       by-test false e =
           let is : filled s (gapAt s 0) ≡ s = simp e (filled-past s (length s + 1) (omega arith)) in

@@ -11,11 +11,12 @@ use Rattle.paper.specs.declared.NumberAnswer.{NumberAnswer}
 use Rattle.paper.proofs.Front.{sets-append}
 use Rattle.forms.specs.declared.Form.{Form}
 use Rattle.forms.specs.Forms.{read, longestInput}
-use Rattle.text.specs.Inner.{Prints, spelled}
+use Rattle.text.specs.Text.{Prints}
+use Rattle.text.specs.Inner.{spelled}
 use Rattle.text.proofs.Buffers.{laid}
-use Rattle.converter.specs.Converter.{oldRead, converted}
+use Rattle.converter.specs.Converter.{two, oldRead, unlessRefused, converted}
 use Rattle.converter.specs.Calls.{Converts}
-use Rattle.converter.specs.Inner.{gap, filled, keptBy, kept, Front}
+use Rattle.converter.specs.Inner.{gap, filled, kept, Front}
 use Rattle.converter.proofs.Old.{full, old-read, converted-full, converted-refused}
 use Rattle.converter.proofs.Bounds.{converted-first}
 
@@ -29,33 +30,33 @@ module _ (t l : List ℕ) (room : length t ≤ length l) where
 
 -- what stands before the gap, the 2, what stands after it
 module _ (s l : List ℕ) (at : ℕ) (inside : at ≤ length s) (room : length s < length l) where
-  pub fill-gap : (l₁ l₂ l₃ : List ℕ) → l₁ ≡ sets l 0 (take at s) → l₂ ≡ sets l₁ at (50 ∷ []) → l₃ ≡ sets l₂ (at + 1) (take (length s - at) (drop at s))
+  pub fill-gap : (l₁ l₂ l₃ : List ℕ) → l₁ ≡ sets l 0 (take at s) → l₂ ≡ sets l₁ at (two ∷ []) → l₃ ≡ sets l₂ (at + 1) (take (length s - at) (drop at s))
       → Front (filled s at) l₃ (length s + 1)
-  fill-gap l₁ l₂ l₃ first two last =
+  fill-gap l₁ l₂ l₃ first second last =
       let t = take at s in
-      let u = t ++ (50 ∷ drop at s) in
+      let u = t ++ (two ∷ drop at s) in
       let long : length t ≡ at = length-take-le at s inside in
       let here : 0 + length t ≡ at = omega (arith, long) in
       let all : filled s at ≡ u = simp (le-ltb (length s) at inside) in
-      let size : length s + 1 ≡ length u = omega (arith, length-append t (50 ∷ drop at s), long, length-drop at s) in
+      let size : length s + 1 ≡ length u = omega (arith, length-append t (two ∷ drop at s), long, length-drop at s) in
       let fits : length u ≤ length l = omega (arith, size) in
       let put : l₃ ≡ sets l 0 u =
       last
       ∙ ap (sets l₂ (at + 1)) (take-all (length s - at) (drop at s) (omega (arith, length-drop at s)))
-      ∙ ap (λ (k : List ℕ). sets k (at + 1) (drop at s)) (two ∙ ap₂ (λ (k : List ℕ) (i : ℕ). sets k i (50 ∷ [])) first (sym here))
-      ∙ ap (λ (i : ℕ). sets (sets (sets l 0 t) (0 + length t) (50 ∷ [])) i (drop at s)) (omega (arith, here))
-      ∙ sets-append (sets l 0 t) (0 + length t) (50 ∷ []) (drop at s)
-      ∙ sets-append l 0 t (50 ∷ drop at s) in
+      ∙ ap (λ (k : List ℕ). sets k (at + 1) (drop at s)) (second ∙ ap₂ (λ (k : List ℕ) (i : ℕ). sets k i (two ∷ [])) first (sym here))
+      ∙ ap (λ (i : ℕ). sets (sets (sets l 0 t) (0 + length t) (two ∷ [])) i (drop at s)) (omega (arith, here))
+      ∙ sets-append (sets l 0 t) (0 + length t) (two ∷ []) (drop at s)
+      ∙ sets-append l 0 t (two ∷ drop at s) in
       subst⁻¹ (λ (v : List ℕ). Front v l₃ (length s + 1)) all
       (subst⁻¹ (Front u l₃) size (front-laid u l fits l₃ put))
 
 -- ---- what is printed for a line without a gap
 module _ (t : List ℕ) (o : Outcome Form) (is : o ≡ read t) where
   pub kept-line : (f : Form) → o ≡ accepted f → t ≡ kept t
-  kept-line f said = ap (λ (o′ : Outcome Form). keptBy o′ t) (sym said ∙ is)
+  kept-line f said = ap (λ (o′ : Outcome Form). unlessRefused o′ t) (sym said ∙ is)
 
   pub kept-refusal : (number field : ℕ) → o ≡ refused number field → spelled o ≡ kept t
-  kept-refusal number field said = ap spelled said ∙ ap (λ (o′ : Outcome Form). keptBy o′ t) (sym said ∙ is)
+  kept-refusal number field said = ap spelled said ∙ ap (λ (o′ : Outcome Form). unlessRefused o′ t) (sym said ∙ is)
 
 pub kept-full : (s : List ℕ) → kept (full s) ≡ converted s
 kept-full s = by-outcome (oldRead s) refl

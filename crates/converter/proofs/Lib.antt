@@ -1,4 +1,5 @@
 pub mod Filling
+pub mod Meaning
 pub mod Lines
 pub mod Old
 pub mod Bounds
@@ -6,3 +7,4 @@ pub mod Seats
 pub mod Fronts
 pub mod NewRule
 pub mod Promised
+pub mod Controls

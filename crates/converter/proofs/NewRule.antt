@@ -1,4 +1,4 @@
--- Today's rule beside the old one: they part at an empty field seven alone, and the fields before it come first. Assumes nothing.
+-- The order program's rule beside the old one: they part at an empty field seven alone, and the fields before it come first. Assumes nothing.
 use mathlib.Core.Path.{_≡_, refl, ap, ap₂, _∙_, sym}
 use mathlib.Core.Bool.{Bool, true, false, not, _&&_}
 use mathlib.Core.Logic.{_⊎_, ⊎-elim}
@@ -83,7 +83,7 @@ module _ (s : List ℕ) where
       first-refuses (fault fs) 0 (lastly fs (ended s)) 1 6 23 places
       (record {
         below = omega arith;
-        is = empty-fault fs none;
+        is = empty-fault fs (none .1);
         some = λ z. omega (arith, z);
         before = λ k less. sym (fault-at k less) ∙ clean k less;
       })

@@ -4,8 +4,8 @@ use mathlib.Core.Bool.{true, false}
 use mathlib.Core.List.{List, [], _∷_, _++_}
 use Prim.Native.Nat.{ℕ, _+_, _-_, _≤_, _<_}
 use native.Mathlib.Omega.{arith}
-use lib.ListN.{length, getD, set, take, length-append}
-use lib.Seq.{getD-take, take-at}
+use lib.ListN.{length, getD, set, take, drop, length-append}
+use lib.Seq.{getD-take, take-at, drop-at}
 use borrow.Author.Tests.{le-leb}
 use Rattle.paper.specs.Outcome.{accepted, refused}
 use Rattle.fields.specs.Fields.{lf, fields, isDigit, allDigits, isNumber}
@@ -16,8 +16,9 @@ use Rattle.forms.specs.declared.Form.{Form}
 use Rattle.forms.specs.Forms.{given, read}
 use Rattle.forms.proofs.Accepting.{form-number}
 use Rattle.text.specs.Text.{printed}
-use Rattle.converter.specs.Converter.{seventh, oldRead, line, converted}
-use Rattle.converter.specs.Laws.{Empty, Stored, Promised}
+use Rattle.converter.specs.Converter.{two, seventh, oldRead, line, converted}
+use Rattle.converter.specs.Laws.{Empty, Rewritten, Promised}
+use Rattle.converter.proofs.Meaning.{empty-meant-2}
 use Rattle.converter.proofs.Lines.{line-fields, ends}
 use Rattle.converter.proofs.Old.{full, full-read, filled-same, old-ended, old-seven, meant-line, converted-full, converted-same, converted-refused, accepted-some}
 use Rattle.converter.proofs.Bounds.{converted-few, converted-first}
@@ -43,19 +44,20 @@ module _ (s : List ℕ) (f : Form) (is : oldRead s ≡ accepted f) where
   accepts : read (converted s) ≡ accepted f
   accepts = ap read (converted-full s f is) ∙ full-read s f is
 
-  with-two : Empty s → converted s ≡ take (length s - 1) s ++ (50 ∷ lf ∷ [])
+  with-two : Empty s → converted s ≡ take (length s - 1) s ++ (two ∷ drop (length s - 1) s)
   with-two none =
-      let e = ends (fields s) 6 (old-seven s f is) none in
+      let e = ends (fields s) 6 (old-seven s f is) (none .1) in
       let whole : s ≡ e .before ++ (lf ∷ []) = sym (line-fields s (old-ended s f is)) ∙ e .empty in
       let size : length (e .before) ≡ length s - 1 = omega (arith, ap length whole, length-append (e .before) (lf ∷ [])) in
       let front : take (length s - 1) s ≡ e .before = ap (take (length s - 1)) whole ∙ take-at (e .before) (lf ∷ []) (length s - 1) size in
+      let last : drop (length s - 1) s ≡ lf ∷ [] = ap (drop (length s - 1)) whole ∙ drop-at (e .before) (lf ∷ []) (length s - 1) size in
       meant-line s f is
-      ∙ ap (λ (g : List ℕ). line (set (fields s) 6 (seventh g))) none
-      ∙ e .with-field (50 ∷ [])
-      ∙ ap (λ (t : List ℕ). t ++ (50 ∷ lf ∷ [])) (sym front)
+      ∙ ap (λ (g : List ℕ). line (set (fields s) 6 (seventh g))) (none .1)
+      ∙ e .with-field (two ∷ [])
+      ∙ ap₂ (λ (t u : List ℕ). t ++ (two ∷ u)) (sym front) (sym last)
 
-  stored : Stored s f
-  stored =
+  rewrites : Rewritten s f
+  rewrites =
       record {
         accepts = accepts;
         prints = ap printed (accepts ∙ sym is);
@@ -74,8 +76,9 @@ refuses s number field is =
 pub promised : Promised
 promised =
     record {
+      empty-meant-2 = empty-meant-2;
       new-rule = new-rule;
-      stored = stored;
+      rewrites = rewrites;
       refuses = refuses;
       untouched = untouched;
       first-bytes = converted-first;

@@ -3,13 +3,16 @@
 -- the old program refused." The old rule, document 01: "Field seven may be empty and then means 2; no other may be. Given or meant, it may not
 -- exceed field five". Definitions only.
 --
---   seventh f      what field seven means, by the old rule: an empty one 2
---   asMeant fs     the fields fs as they were meant by the old rule: field seven, where there is one, as what it means, every other as it is
---   oldRead s      what the input s asked for by the old rule: its fields as they were meant, by the rules that are the same
---   oldOutput s    what the old program printed on s
---   line fs        the line of the fields fs: single semicolons between them, and one LF
---   converted s    what the converter prints on s: the old refusal; else the line, its fields as they were meant
---   longestLine    no output is longer
+--   two              the digit 2
+--   seventh f        what field seven meant by the old rule: an empty one 2
+--   asMeant fs       the fields fs as they were meant: field seven, where there is one, as what it meant, every other as it is
+--   oldRead s        what the input s asked for by the old rule: its fields as they were meant, read by the rules that did not change
+--                    (`inOrder`, `forms/specs/Forms.antt`)
+--   oldOutput s      what the old program printed on s
+--   line fs          the line of the fields fs: single semicolons between them, and one LF
+--   unlessRefused    the line t; for a refusal its line of refusal
+--   converted s      what the converter prints on s: the line of the fields as they were meant, unless the old rule refuses
+--   longestLine      no output is longer: 38 digits in seven fields, six semicolons and LF (reached)
 --
 -- Assumes nothing.
 use mathlib.Core.List.{List, [], _∷_, _++_}
@@ -21,9 +24,11 @@ use Rattle.forms.specs.declared.Form.{Form}
 use Rattle.forms.specs.Forms.{inOrder}
 use Rattle.text.specs.Text.{refusalLine, printed}
 
--- the digit 2 for an empty field
+abbrev pub two : ℕ
+two = 50
+
 abbrev pub seventh : List ℕ → List ℕ
-seventh [] = 50 ∷ []
+seventh [] = two ∷ []
 seventh (b ∷ f) = b ∷ f
 
 -- field seven is entry 6 of the fields
@@ -41,12 +46,12 @@ line [] = lf ∷ []
 line (f ∷ []) = f ++ (lf ∷ [])
 line (f ∷ (g ∷ fs)) = f ++ (semicolon ∷ line (g ∷ fs))
 
-abbrev pub convertedBy : Outcome Form → List (List ℕ) → List ℕ
-convertedBy (accepted f) fs = line (asMeant fs)
-convertedBy (refused number field) fs = refusalLine number field
+abbrev pub unlessRefused : Outcome Form → List ℕ → List ℕ
+unlessRefused (accepted f) t = t
+unlessRefused (refused number field) t = refusalLine number field
 
 abbrev pub converted : List ℕ → List ℕ
-converted s = convertedBy (oldRead s) (fields s)
+converted s = unlessRefused (oldRead s) (line (asMeant (fields s)))
 
 abbrev pub longestLine : ℕ
 longestLine = 45

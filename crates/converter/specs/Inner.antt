@@ -15,10 +15,8 @@ use lib.Dec.{eqb, ltb}
 use lib.ListN.{length, take, drop}
 use Rattle.fields.specs.Fields.{lf, semicolon}
 use Rattle.fields.specs.Inner.{piece}
-use Rattle.paper.specs.Outcome.{Outcome, accepted, refused}
-use Rattle.forms.specs.declared.Form.{Form}
 use Rattle.forms.specs.Forms.{read}
-use Rattle.text.specs.Text.{refusalLine}
+use Rattle.converter.specs.Converter.{two, unlessRefused}
 
 unfoldable pub begins : ℕ → List ℕ → ℕ
 begins zero s = 0
@@ -32,14 +30,10 @@ abbrev pub gap : List ℕ → ℕ
 gap s = gapAt s (begins 6 s)
 
 abbrev pub filled : List ℕ → ℕ → List ℕ
-filled s at = cond (ltb (length s) at) s (take at s ++ (50 ∷ drop at s))
-
-abbrev pub keptBy : Outcome Form → List ℕ → List ℕ
-keptBy (accepted f) t = t
-keptBy (refused number field) t = refusalLine number field
+filled s at = cond (ltb (length s) at) s (take at s ++ (two ∷ drop at s))
 
 abbrev pub kept : List ℕ → List ℕ
-kept t = keptBy (read t) t
+kept t = unlessRefused (read t) t
 
 pub record Front (t l : List ℕ) (n : ℕ) : Type 0 where
   pub long : n ≡ length t

@@ -8,7 +8,7 @@ ghost use Rattle.forms.specs.Forms.{longestInput};
 ghost use Rattle.converter.specs.Inner.{begins, Front, filled};
 ghost use Rattle.converter.specs.Inner.{gap as Inner·gap};
 
-// How many first bytes of the input decide.
+// How many bytes are looked at: the first bytes of the input decide.
 pub(crate) fn deciding(input: &[u8]) -> usize
     ensures { λ r. ⌜ r ≤ length (now (input .entry)) ⌝ }
     ensures { λ r. ⌜ r ≤ longestInput ⌝ }

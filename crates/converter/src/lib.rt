@@ -2,7 +2,7 @@
 // `specs/Calls.antt`.
 use forms::FormAnswer;
 use paper::NumberAnswer;
-ghost use Rattle.text.specs.Inner.{Prints};
+ghost use Rattle.text.specs.Text.{Prints};
 ghost use Rattle.converter.specs.Calls.{Converts};
 ghost use Rattle.converter.specs.Inner.{kept as Inner·kept};
 
@@ -11,7 +11,7 @@ mod fill;
 // No output is longer.
 pub const LONGEST_LINE: usize = 45;
 
-// The longest input, and the 2.
+// The first bytes, which decide, and the 2.
 const ROOM: usize = 72;
 
 // The line as it is, where it fits. Refused: 14, with the bytes needed.
@@ -25,7 +25,7 @@ fn copied(line: &[u8], out: &mut [u8]) -> NumberAnswer
     NumberAnswer::Is(line.len() as u64)
 }
 
-// A line without a gap: itself where today's program accepts it, else its refusal.
+// A line without a gap: itself where the order program accepts it, else its refusal.
 fn kept(line: &[u8], out: &mut [u8]) -> NumberAnswer
     ensures { λ r. ⌜ Prints (Inner·kept (now (line .entry))) r (now (out .entry)) (now (out .exit)) ⌝ }
 {
@@ -45,7 +45,7 @@ pub fn convert(input: &[u8], out: &mut [u8]) -> NumberAnswer
     if n < at {
         return kept(&input[..n], out);
     }
-    // The old rule is today's on the line with the 2 put in.
+    // The old rule is the order program's on the line with the 2 put in.
     let mut line = [0u8; ROOM];
     let size = fill::fill(&input[..n], at, &mut line);
     kept(&line[..size], out)

@@ -12,8 +12,8 @@ use Rattle.paper.specs.declared.NumberAnswer.the-variants as number
 use Rattle.forms.specs.declared.Form.{Form}
 use Rattle.forms.specs.Forms.{read}
 use Rattle.forms.proofs.Bounds.{form-orderly}
-use Rattle.text.specs.Text.{printed, longestOutput}
-use Rattle.text.specs.Inner.{Put, Prints, spelled}
+use Rattle.text.specs.Text.{printed, Prints, longestOutput}
+use Rattle.text.specs.Inner.{Put, spelled}
 use Rattle.text.proofs.Room.{printed-few}
 use Rattle.text.proofs.Sharing.{spelled-printed}
 use Rattle.text.proofs.Buffers.{prints}

@@ -1,6 +1,6 @@
 -- What is promised of the order program, as statements. Definitions only.
 --
---   Ordered s f    what makes an order line s an order for f: seven fields and one LF, nothing after it; each field is a number, the seventh too;
+--   Ordered s f    what makes an order line s an order for f: seven fields and one LF, nothing after it; each field is a number;
 --                  fields four and six are 1 to 4,096, field five at most 21, field seven not above field five; not more than 1,048,576
 --                  leaves; and f has their numbers
 --   started f      the uniform start that is ordered

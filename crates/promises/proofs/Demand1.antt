@@ -3,6 +3,7 @@ use mathlib.Core.Path.{_≡_, refl, _∙_, sym, ap, subst}
 use mathlib.Core.Bool.{not}
 use mathlib.Core.List.{List, [], _∷_, List·Memᴰ}
 use Prim.Native.Nat.{ℕ, _+_, _*_, _^_}
+use native.Mathlib.Nat.{le-refl}
 use native.Mathlib.Omega.{arith}
 use lib.Dec.{leb, ltb}
 use lib.ListN.{length}
@@ -102,6 +103,7 @@ on-parts =
           let same = f .answer ∙ sym (g .answer) in
           (same, f .memory ∙ stretch-one root level position m r s same at ∙ sym (g .memory));
       number = λ f. answer valueOf numbers (when (not (isNumber f)) 23 at0 (λ is. fine _));
+      answer = λ bytes m. lent valueOf numbers length written (room-so (length bytes) (length m) bytes at0 (le-refl (length bytes)));
       print = λ bytes m r s a b f g. (f .end ∙ sym (g .end), f .written ∙ sym (g .written));
       lay-bytes = λ at bytes m r s a b f g. (refl, f ∙ sym g);
     }

@@ -50,10 +50,9 @@ use Rattle.leaves.proofs.Promised as leaves
 use Rattle.adaption.proofs.Promised as adaption
 use Rattle.shares.proofs.Promised as shares
 use Rattle.corners.proofs.Promised as corners
-use Rattle.orders.proofs.Promised as orders
-use Rattle.converter.proofs.Promised as converter
 use Rattle.promises.specs.Demand2.{Figure, lineFigure, triangleFigure, prismFigure, Elements, OfElements, OfLists, OfFiles, OfPoints, Demand2}
 use Rattle.promises.proofs.Flat.{returned}
+use Rattle.promises.proofs.Printing.{of-orders, of-stored}
 use Rattle.promises.proofs.OverC.{sections-over-c}
 use Rattle.promises.proofs.ElementCalls.{handed-back}
 use Rattle.promises.proofs.Accepts as lists
@@ -131,4 +130,4 @@ of-points =
     }
 
 pub demand-2 : Demand2
-demand-2 = record { of-elements = of-elements; of-lists = of-lists; of-files = of-files; of-points = of-points; of-orders = orders.promised; of-stored = converter.promised }
+demand-2 = record { of-elements = of-elements; of-lists = of-lists; of-files = of-files; of-points = of-points; of-orders = of-orders; of-stored = of-stored }

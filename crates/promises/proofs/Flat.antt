@@ -1,16 +1,20 @@
 -- A function over C tells its call's outcome by its word, since the refusals of the call fit into one. Assumes nothing.
-use mathlib.Core.Path.{_≡_, refl, ap, _∙_, sym, subst}
+use mathlib.Core.Path.{_≡_, refl, ap, ap₂, _∙_, sym, subst}
 use mathlib.Core.Bool.{Bool, true, _&&_, and-eq-true-iff}
 use mathlib.Core.List.{List, [], _∷_, List·Memᴰ, List·Memᴰ·head, List·Memᴰ·tail, Memᴰ·cast}
 use Prim.Native.Nat.{ℕ, _/_, _%_, _≤_}
 use native.Mathlib.Nat.{le-trans, le-of-eq}
 use native.Mathlib.Omega.{arith}
 use lib.Dec.{leb}
+use lib.ListN.{length, take, drop}
+use lib.Seq.{take-append-seam}
 use borrow.Author.Tests.{leb-true}
 use Rattle.paper.specs.Outcome.{Outcome, accepted, refused}
-use Rattle.paper.specs.Memory.{left, Fulfils}
+use Rattle.paper.specs.Memory.{written, left, Fulfils}
 use Rattle.paper.proofs.Memory.{decided}
-use Rattle.results.specs.Results.{word}
+use Rattle.results.specs.Results.{word, numberResult}
+use Rattle.results.specs.declared.NumberResult.{NumberResult}
+use Rattle.interface.specs.Calls.{countOf}
 use Rattle.results.specs.Laws.{Kind, Word}
 use Rattle.results.proofs.Laws.{Result, Fits, word-tells, word-parts}
 use Rattle.promises.specs.Refusals.{Refuses}
@@ -90,3 +94,11 @@ module _ {A R M : Type 0} (kind : Kind R) (shows : Outcome A → R) (put : A →
   returned flat f zero =
       let a = flat .word r m′ f .accepts .0 zero in
       (a .0, (a .1, (f .answer ∙ ap shows (a .1), f .memory ∙ ap (λ (o : Outcome A). left put o m) (a .1))))
+
+-- ---- what stands in front, and how many
+pub front-bytes : (bs m m′ : List ℕ) (N : ℕ) → m′ ≡ written bs m → length bs ≡ N → take N m′ ≡ bs
+front-bytes bs m m′ N is long = ap₂ take (sym long) is ∙ take-append-seam bs (drop (length bs) m)
+
+pub count-value : {A : Type 0} (es : List A) (r : NumberResult) → r ≡ countOf (accepted es) → length es ≡ r .value
+unfolding numberResult
+count-value es r is = sym (ap (λ (r : NumberResult). r .value) is)

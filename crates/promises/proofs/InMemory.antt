@@ -35,7 +35,7 @@ use Rattle.interface.specs.Calls.{countOf}
 use Rattle.promises.specs.Demand3.{Divided}
 use Rattle.promises.specs.InMemory.{InMemory, InMemoryOverC}
 use Rattle.promises.specs.OverC.{Flat, ListsOverC}
-use Rattle.promises.proofs.Flat.{returned}
+use Rattle.promises.proofs.Flat.{returned, front-bytes, count-value}
 use Rattle.promises.proofs.Accepts.{accepts}
 use Rattle.promises.proofs.Demand3.{of-accepted}
 
@@ -47,9 +47,6 @@ Stored k ws cs = (cs ≡ columnsOf ws) × ValidList 8 21 k cs
 front-list : (k : ℕ) (ws : List Leaf) (m m′ : Columns) (N : ℕ) → ValidList 8 21 k (columnsOf ws) → m′ ≡ front ws m → length ws ≡ N
     → Stored k ws (firstEntries N m′)
 front-list k ws m m′ N valid is long = let here = first-of ws m m′ N is long in (here, subst (ValidList 8 21 k) (sym here) valid)
-
-front-bytes : (bs m m′ : List ℕ) (N : ℕ) → m′ ≡ written bs m → length bs ≡ N → take N m′ ≡ bs
-front-bytes bs m m′ N is long = ap₂ take (sym long) is ∙ take-append-seam bs (drop (length bs) m)
 
 front-boundaries : (k p : ℕ) (cs : Columns) (ws m m′ bs : List ℕ) → shares 8 21 k p cs ws m ≡ accepted bs → m′ ≡ written bs m
     → (take (p + 1) m′ ≡ boundaries p ws) × Divided k p (leaves cs) ws
@@ -101,10 +98,6 @@ in-memory =
     }
 
 -- ---- over C: what a word of 0 tells
-count-value : {A : Type 0} (es : List A) (r : NumberResult) → r ≡ countOf (accepted es) → length es ≡ r .value
-unfolding numberResult
-count-value es r is = sym (ap (λ (r : NumberResult). r .value) is)
-
 grid-value : (g : Grid) (r : GridResult) → r ≡ gridResult (mapped sizeOf (accepted g)) → (g .roots ≡ r .roots) × (length (g .leaves) ≡ r .leaves)
 unfolding gridResult
 grid-value g r is = (sym (ap (λ (r : GridResult). r .roots) is), sym (ap (λ (r : GridResult). r .leaves) is))

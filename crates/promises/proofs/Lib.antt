@@ -10,6 +10,7 @@ pub mod Demand1
 pub mod OverC
 pub mod TestsInTurn
 pub mod Accepts
+pub mod Printing
 pub mod Demand2
 pub mod Demand3
 pub mod InMemory

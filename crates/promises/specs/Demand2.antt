@@ -1,4 +1,4 @@
--- The order's second demand, for elements, leaf lists, grid files, corner points and orders: "Positions are those of the prism index .. An
+-- The order's second demand, for elements, leaf lists, grid files, corner points, orders and stored orders: "Positions are those of the prism index .. An
 -- element's position is its rank among all elements of its level in that order, and each position below eight to the power of the level gives
 -- back its element." Definitions only.
 --
@@ -15,8 +15,9 @@
 --                 answers at position k (`Drawn`, `corners/specs/SectionLaws.antt`)
 --   Demand2       all of it, with corner points (the exact value and no other, the bound, the root's own corners, one point for one local corner, a
 --                 whole section as the single calls one by one) and orders (when one is accepted, the first 71 bytes decide, its fields are
---                 repeated, its shares are the list's own, its numbers read back, its output has room) and stored orders (where today's rule and
---                 the old one part, and what the converter makes of every line)
+--                 repeated, its shares are the list's own, its numbers read back, its output has room) and stored orders (what an empty field
+--                 seven meant, where the order program and the old one part, what the converter makes of every line); what both leave in
+--                 memory (`Printing.antt`)
 --
 -- Assumes nothing.
 use mathlib.Core.Bool.{Bool}
@@ -61,8 +62,7 @@ use Rattle.leaves.specs.Laws as leaves
 use Rattle.adaption.specs.Laws as adaption
 use Rattle.shares.specs.Laws as shares
 use Rattle.corners.specs.Laws as corners
-use Rattle.orders.specs.Laws as orders
-use Rattle.converter.specs.Laws as converter
+use Rattle.promises.specs.Printing.{OfOrders, OfStored}
 use Rattle.promises.specs.Refusals.{Refuses}
 use Rattle.promises.specs.Accepts as lists
 
@@ -166,5 +166,5 @@ pub record Demand2 : Type 0 where
   pub of-lists : OfLists
   pub of-files : OfFiles
   pub of-points : OfPoints
-  pub of-orders : orders.Promised
-  pub of-stored : converter.Promised
+  pub of-orders : OfOrders
+  pub of-stored : OfStored

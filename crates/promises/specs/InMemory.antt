@@ -4,8 +4,8 @@
 --                   call accepts it where its other arguments are right (`Accepts.antt`), and boundaries are those of a division as demand 3 has it
 --   InMemoryOverC   the same of each function over C that writes, where its word is 0
 --
--- Not here: the bytes that an order or the converter prints (`Answered`, `OrderResult`, `Converts`, `ConvertResult`), the points of a section
--- (`OfPoints`, `Demand2.antt`). Assumes nothing.
+-- Not here: the bytes that the order program and the converter print (`Printing.antt`), the points of a section (`OfPoints`, `Demand2.antt`).
+-- Assumes nothing.
 use mathlib.Core.Path.{_≡_}
 use mathlib.Core.List.{List}
 use Prim.Native.Nat.{ℕ, _+_}

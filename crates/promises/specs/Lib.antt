@@ -2,6 +2,7 @@ pub mod Refusals
 pub mod Demand1
 pub mod OverC
 pub mod Accepts
+pub mod Printing
 pub mod Demand2
 pub mod Demand3
 pub mod InMemory

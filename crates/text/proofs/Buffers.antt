@@ -11,14 +11,14 @@ use lib.ListN.{length, take, drop}
 use lib.Seq.{sets, sets-eq, length-take-le}
 use borrow.Author.Tests.{lt-ltb, le-ltb, ltb-false}
 use Rattle.paper.specs.Outcome.{accepted, refused}
-use Rattle.paper.specs.Memory.{written, roomFor}
+use Rattle.paper.specs.Memory.{written}
 use Rattle.paper.specs.Readings.{valueOf}
 use Rattle.paper.specs.declared.NumberAnswer.{NumberAnswer}
 use Rattle.paper.specs.declared.NumberAnswer.the-variants as number
 use Rattle.paper.proofs.Front.{written-length}
 use Rattle.paper.proofs.Memory.{refuses, accepts}
 use Rattle.paper.proofs.Scan.{never}
-use Rattle.text.specs.Inner.{Prints}
+use Rattle.text.specs.Text.{printing, Prints}
 
 -- ---- each way out of the call
 pub laid : (t m : List ℕ) → length t ≤ length m → sets m 0 t ≡ written t m
@@ -30,12 +30,12 @@ module _ (t m : List ℕ) (size : ℕ) (long : size ≡ length t) where
   pub no-room : length m < size → Prints t (number.Refused 14 size) m m
   no-room short =
       let less : length m < length t = omega arith in
-      refuses valueOf length written (roomFor (length t) (length m) t) _ m 14 (length t) (simp (lt-ltb (length m) (length t) less)) (ap (refused 14) long)
+      refuses valueOf length written (printing t (length m)) _ m 14 (length t) (simp (lt-ltb (length m) (length t) less)) (ap (refused 14) long)
 
   pub prints : (m′ : List ℕ) → size ≤ length m → m′ ≡ sets m 0 t → Prints t (number.Is size) m m′
   prints m′ room put =
       let fits : length t ≤ length m = omega arith in
-      accepts valueOf length written (roomFor (length t) (length m) t) _ m t m′ (simp (le-ltb (length m) (length t) fits)) (ap accepted long) (put ∙ laid t m fits)
+      accepts valueOf length written (printing t (length m)) _ m t m′ (simp (le-ltb (length m) (length t) fits)) (ap accepted long) (put ∙ laid t m fits)
 
 -- ---- a program that calls it
 module _ (t m m′ : List ℕ) (r : NumberAnswer) (call : Prints t r m m′) where

@@ -1,8 +1,6 @@
 -- Inner contracts: what functions ask and answer that only this house calls. A reader of the promises may skip this file. Definitions only.
 --
 --   Put t at l l′ r  the bytes t stand in l′ from at on, what lies past the end of l left out, and r is where they end
---   Prints t r m m′  the contract of a call that prints the bytes t into a lent buffer: 14 where they do not fit, with how many there are; else they
---                    stand at its front, and the answer is how many
 --   spelled o        the bytes of `printed`, where share s of equal weights begins at leaf s·n / p: the thesis's formula 27
 --
 -- Assumes nothing.
@@ -11,19 +9,13 @@ use mathlib.Core.List.{List, _++_}
 use Prim.Native.Nat.{ℕ, _+_, _*_, _/_}
 use lib.ListN.{length}
 use lib.Seq.{sets}
-use Rattle.paper.specs.Outcome.{Outcome, accepted, refused, mapped}
-use Rattle.paper.specs.Memory.{written, roomFor, Fulfils}
-use Rattle.paper.specs.Readings.{valueOf}
-use Rattle.paper.specs.declared.NumberAnswer.{NumberAnswer}
+use Rattle.paper.specs.Outcome.{Outcome, accepted, refused}
 use Rattle.forms.specs.declared.Form.{Form}
 use Rattle.text.specs.Text.{firstLine, shareLines, refusalLine}
 
 pub record Put (t : List ℕ) (at : ℕ) (l l′ : List ℕ) (r : ℕ) : Type 0 where
   pub written : l′ ≡ sets l at t
   pub end : r ≡ at + length t
-
-abbrev pub Prints : List ℕ → NumberAnswer → List ℕ → List ℕ → Type 0
-Prints t r m m′ = Fulfils valueOf (mapped length) written (roomFor (length t) (length m) t) r m m′
 
 abbrev pub spelled : Outcome Form → List ℕ
 spelled (accepted f) = firstLine f ++ shareLines (λ s. s * f .leaves / f .shares) (f .shares)

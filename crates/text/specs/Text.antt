@@ -14,6 +14,8 @@
 --   weights f        "all weights being 1": one for each leaf of the uniform start
 --   refusalLine      "A refusal prints only `refused 23 field 7`, with its number and field"
 --   printed o        all that is printed
+--   printing t room  the bytes t, for a buffer of room bytes; 14 where it has not so many: "no room; place = .. bytes needed"
+--   Prints t r m m′  the contract of a call that prints the bytes t: it answers how many they are, and they stand at the front of the lent buffer
 --   longestOutput    no output is longer: at most 28 bytes for each of the first line's seven entries, and 21 for each of 4,096 shares (a bound,
 --                    not reached)
 --
@@ -22,7 +24,11 @@ use mathlib.Core.Bool.{cond}
 use mathlib.Core.List.{List, [], _∷_, _++_, map}
 use Prim.Native.Nat.{ℕ, zero, suc, _+_, _-_, _/_, _%_}
 use lib.Dec.{ltb}
-use Rattle.paper.specs.Outcome.{Outcome, accepted, refused, rows}
+use lib.ListN.{length}
+use Rattle.paper.specs.Outcome.{Outcome, accepted, refused, mapped, rows}
+use Rattle.paper.specs.Memory.{written, roomFor, Fulfils}
+use Rattle.paper.specs.Readings.{valueOf}
+use Rattle.paper.specs.declared.NumberAnswer.{NumberAnswer}
 use Rattle.tree.specs.Anchors.{HIGHEST}
 use Rattle.leaves.specs.Leaves.{CHILDREN, Leaf, uniformList}
 use Rattle.shares.specs.Shares.{boundary}
@@ -104,6 +110,12 @@ refusalLine number field = entry wordRefused number blank ++ entry wordField fie
 abbrev pub printed : Outcome Form → List ℕ
 printed (accepted f) = firstLine f ++ shareLines (boundary (f .shares) (weights f)) (f .shares)
 printed (refused number field) = refusalLine number field
+
+abbrev pub printing : List ℕ → ℕ → Outcome (List ℕ)
+printing t room = roomFor (length t) room t
+
+abbrev pub Prints : List ℕ → NumberAnswer → List ℕ → List ℕ → Type 0
+Prints t r m m′ = Fulfils valueOf (mapped length) written (printing t (length m)) r m m′
 
 abbrev pub longestOutput : ℕ
 longestOutput = 86212

@@ -1,5 +1,5 @@
-// What is printed, put into a lent buffer byte after byte. A byte past the buffer's end is left out and counted, so that a first pass over a
-// short buffer finds how many there are.
+// What is printed, put into a lent buffer byte after byte. A byte past the buffer's end is left out; an answer counts it, so that a first pass
+// over a short buffer finds how many there are.
 use forms::Form;
 use forms::FormAnswer;
 use paper::NumberAnswer;
@@ -8,10 +8,10 @@ ghost use Prim.Native.Nat.{_+_, _*_, _/_, _^_, _≤_, _<_, min};
 ghost use lib.ListN.{length, set};
 ghost use lib.Seq.{sets};
 ghost use Rattle.forms.specs.Forms.{formOf};
-ghost use Rattle.text.specs.Text.{counted, shareLine, shareLines, firstLine, refusalLine};
+ghost use Rattle.text.specs.Text.{counted, shareLine, shareLines, firstLine, refusalLine, Prints};
 ghost use Rattle.text.specs.Text.{decimal as Text·decimal};
 ghost use Rattle.text.specs.Text.{entry as Text·entry};
-ghost use Rattle.text.specs.Inner.{Put, Prints, spelled};
+ghost use Rattle.text.specs.Inner.{Put, spelled};
 
 // One byte.
 fn put(out: &mut [u8], at: usize, b: u8)

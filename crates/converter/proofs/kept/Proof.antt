@@ -3,7 +3,7 @@ use mathlib.Core.Path.{ap, subst}
 use mathlib.Core.List.{List}
 use Prim.Native.Nat.{ℕ}
 use Rattle.forms.specs.Forms.{formOf}
-use Rattle.text.specs.Inner.{Prints}
+use Rattle.text.specs.Text.{Prints}
 use Rattle.converter.proofs.Fronts.{kept-line, kept-refusal}
 use borrow.Author.Needs.{needs}
 use Rattle.converter.proofs.kept.Statement.{statement}
