@@ -4,6 +4,10 @@
 mod common;
 
 use std::collections::BTreeMap;
+use std::fs;
+use std::os::unix::fs::symlink;
+use std::path::PathBuf;
+use std::process::Command;
 
 use common::orders::{agree, answer, converted, decide, ordered, printed, sample, Decision, CONVERT, NEW, OLD, ORDER};
 use common::random::Random;
@@ -66,6 +70,19 @@ fn the_sample() {
         assert_eq!(answer(convert, &input, LONGEST_LINE).as_ref(), Ok(&output));
         assert_eq!(printed("convert", &input), output);
         assert_eq!(ask(&input, 80).0, output);
+    }
+}
+
+/// What the old program printed: on an order the new program prints it of the converted line, a refusal the converter prints itself.
+#[test]
+fn the_old_program() {
+    let lines = sample("order");
+    assert_eq!(lines.len(), 370);
+    for (input, output) in lines {
+        let line = answer(convert, &input, LONGEST_LINE).expect("enough room");
+        let accepted = output.starts_with(b"order ");
+        assert_eq!(if accepted { printed("order", &line) } else { line }, output);
+        assert_eq!(ask(&input, 80).1.is_ok(), accepted);
     }
 }
 
@@ -185,4 +202,48 @@ fn a_converted_line_from_program_to_program() {
     assert_eq!(printed("convert", &line), line);
     let text = printed("order", &line);
     assert_eq!(text, b"order 1042 site 7 model 3 roots 1 level 2 leaves 64 shares 3\n0 0 21\n1 21 21\n2 42 22\n");
+}
+
+/// A folder of stored orders, one line a file.
+const STORED: [(&str, &[u8]); 11] = [
+    ("filled", b"1042;7;3;1;4;3;1\n"),
+    ("empty", b"1043;7;3;1;4;3;\n"),
+    ("-dash", b"1044;7;3;4096;21;4096;\n"),
+    ("new\nline", b"1045;7;3;2;9;5;\n"),
+    ("above", b"1046;7;3;1;1;3;\n"),
+    ("no line end", b"1047;7;3;1;4;3;"),
+    ("carriage return", b"1048;7;3;1;4;3;\r\n"),
+    ("two lines", b"1049;7;3;1;4;3;\n1050;7;3;1;4;3;\n"),
+    ("nothing", b""),
+    ("nul", b"1;2\x003;4\n"),
+    ("long", &[b'1'; 100_000]),
+];
+
+/// The shell line of README.md, as a new user would run it on that folder: nothing is lost, and what was refused is kept apart with its refusal.
+#[test]
+fn the_line_of_the_readme() {
+    let root = PathBuf::from(env!("CARGO_MANIFEST_DIR")).join("..").canonicalize().expect("the repository");
+    let readme = fs::read_to_string(root.join("README.md")).expect("README.md");
+    let line = readme.lines().find(|line| line.starts_with("    mkdir converted refused reasons")).expect("the line");
+    let office = PathBuf::from(env!("CARGO_TARGET_TMPDIR")).join("office");
+    let _ = fs::remove_dir_all(&office);
+    fs::create_dir_all(office.join("stored")).expect("a folder");
+    symlink(root.join("target"), office.join("target")).expect("a link to the programs");
+    for (name, bytes) in STORED {
+        fs::write(office.join("stored").join(name), bytes).expect("a stored order");
+    }
+    let run = || Command::new("sh").args(["-c", line]).current_dir(&office).output().expect("a shell").status.success();
+    assert!(run());
+    for (name, bytes) in STORED {
+        let kept = |folder: &str| fs::read(office.join(folder).join(name)).ok();
+        let output = converted(bytes);
+        let [line, refused, reason] = ["converted", "refused", "reasons"].map(kept);
+        assert_eq!(kept("stored").as_deref(), Some(bytes));
+        if decide(bytes, OLD).is_ok() {
+            assert_eq!((line, refused, reason), (Some(output), None, None), "{name:?}");
+        } else {
+            assert_eq!((line, refused, reason), (None, Some(bytes.to_vec()), Some(output)), "{name:?}");
+        }
+    }
+    assert!(!run(), "nothing is written over");
 }

@@ -139,13 +139,14 @@ pub fn printed(name: &str, input: &[u8]) -> Vec<u8> {
     output.stdout
 }
 
-/// The sample's lines of an operation that prints: input and output.
+/// The samples' lines of an operation that prints: input and output. `order` is the old program, `t2_order` the new one.
 pub fn sample(op: &str) -> Vec<(Vec<u8>, Vec<u8>)> {
     let bytes = |hex: &str| -> Vec<u8> {
         let digits = hex.trim_matches('-').as_bytes();
         digits.chunks(2).map(|two| u8::from_str_radix(std::str::from_utf8(two).unwrap(), 16).unwrap()).collect()
     };
-    let lines = include_str!("../../data/requests.txt").lines().filter_map(|line| line.split_once(" = prints "));
+    let lines = include_str!("../../data/base.txt").lines().chain(include_str!("../../data/requests.txt").lines());
+    let lines = lines.filter_map(|line| line.split_once(" = prints "));
     let lines = lines.filter_map(|(question, output)| Some((question.strip_prefix(op)?.strip_prefix(' ')?, output)));
     lines.map(|(input, output)| (bytes(input), bytes(output))).collect()
 }
