@@ -1,16 +1,15 @@
 -- A line that the old rule accepts is short, so the first bytes decide what is printed, and no output is long. Assumes nothing.
 use mathlib.Core.Path.{_≡_, refl, ap, _∙_, sym}
 use mathlib.Core.Bool.{Bool, true, false}
-use mathlib.Core.List.{List, [], _∷_, _++_, List·Memᴰ, List·Memᴰ·head, List·Memᴰ·tail}
-use Prim.Native.Nat.{ℕ, zero, suc, _+_, _-_, _*_, _^_, _≤_, _<_}
-use native.Mathlib.Nat.{le-trans}
+use mathlib.Core.List.{List, [], _∷_, List·Memᴰ, List·Memᴰ·head, List·Memᴰ·tail}
+use Prim.Native.Nat.{ℕ, zero, suc, _*_, _^_, _≤_, _<_}
 use native.Mathlib.Omega.{arith}
 use lib.Dec.{ltb}
 use lib.ListN.{length, getD, take, drop, length-append, length-take, length-drop}
 use lib.Seq.{take-all}
 use borrow.Author.Tests.{ltb-true, ltb-false}
 use Rattle.paper.specs.Outcome.{Outcome, accepted, refused}
-use Rattle.fields.specs.Fields.{lf, fields, ended, isNumber, value}
+use Rattle.fields.specs.Fields.{lf, fields, ended}
 use Rattle.fields.proofs.FirstBytes.{Alike, same, long, more, over, alike-take}
 use Rattle.forms.specs.declared.Form.{Form}
 use Rattle.forms.specs.Forms.{given, numberIn, formIn, read, longestInput}
@@ -22,11 +21,11 @@ use Rattle.forms.proofs.Refusals.{read-refused}
 use Rattle.text.specs.Text.{blank, decimal, counted, entry, wordRefused, wordField, refusalLine}
 use Rattle.text.proofs.Decimals.{decimal-few}
 use Rattle.text.proofs.Repeating.{decimal-value}
-use Rattle.converter.specs.Converter.{two, seventh, asMeant, oldRead, line, converted, longestLine}
+use Rattle.converter.specs.Converter.{two, seventh, asMeant, oldRead, converted, longestLine}
 use Rattle.converter.specs.Inner.{gap, filled}
 use Rattle.converter.proofs.Filling.{meantAt}
 use Rattle.converter.proofs.Lines.{line-fields, whole, line-few}
-use Rattle.converter.proofs.Old.{full, old-read, full-read, old-seven, converted-full, converted-refused}
+use Rattle.converter.proofs.Old.{full, old-read, full-read, converted-full, converted-refused}
 
 -- ---- the fields of an order that is accepted
 module _ (s : List ℕ) (f : Form) (is : read s ≡ accepted f) where

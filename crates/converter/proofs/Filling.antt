@@ -1,17 +1,17 @@
 -- The 2 put in where field seven is empty: the line's fields are then those that the old rule meant, and its end is as it was. Assumes nothing.
 use mathlib.Core.Path.{_≡_, refl, ap, _∙_, sym, subst⁻¹}
 use mathlib.Core.Bool.{Bool, true, false}
-use mathlib.Core.List.{List, [], _∷_, _++_}
-use Prim.Native.Nat.{ℕ, zero, suc, _+_, _≤_, _<_}
+use mathlib.Core.List.{List, [], _∷_}
+use Prim.Native.Nat.{ℕ, zero, suc, _+_, _<_}
 use native.Mathlib.Omega.{arith}
 use lib.Dec.{eqb, ltb}
-use lib.ListN.{length, getD, set, take, drop}
+use lib.ListN.{length, getD, set, drop}
 use borrow.Author.Tests.{lt-ltb, le-ltb, eqb-true, eqb-false, ltb-true, ltb-false}
 use Rattle.fields.specs.Fields.{lf, semicolon, grown, fields, ended}
 use Rattle.fields.specs.Inner.{piece}
 use Rattle.fields.proofs.Cutting.{rest, later, cut}
-use Rattle.converter.specs.Converter.{two, seventh, asMeant}
-use Rattle.converter.specs.Inner.{begins, gapAt, gap, filled}
+use Rattle.converter.specs.Converter.{two, seventh}
+use Rattle.converter.specs.Inner.{begins, gapAt, filled}
 
 -- the fields with an empty one after k others as what field seven means
 abbrev pub meantAt : ℕ → List (List ℕ) → List (List ℕ)

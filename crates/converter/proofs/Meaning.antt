@@ -6,7 +6,7 @@ use mathlib.Core.List.{List, [], _∷_, _++_}
 use Prim.Native.Nat.{ℕ, suc}
 use native.Mathlib.Omega.{arith}
 use lib.Dec.{eqb}
-use lib.ListN.{length, getD, set}
+use lib.ListN.{length, set}
 use lib.Seq.{getD-at, set-at}
 use Rattle.fields.specs.Fields.{lf, semicolon, grown, fields, ended}
 use Rattle.fields.specs.Inner.{piece}

@@ -1,7 +1,7 @@
 -- The order program's rule beside the old one: they part at an empty field seven alone, and the fields before it come first. Assumes nothing.
 use mathlib.Core.Path.{_≡_, refl, ap, ap₂, _∙_, sym}
 use mathlib.Core.Bool.{Bool, true, false, not, _&&_}
-use mathlib.Core.Logic.{_⊎_, ⊎-elim}
+use mathlib.Core.Logic.{⊎-elim}
 use mathlib.Core.List.{List, []}
 use Prim.Native.Nat.{ℕ, zero, suc, _+_, _-_, _≤_, _<_}
 use native.Mathlib.Nat.{add-zero, add-suc, suc-add}
@@ -12,7 +12,7 @@ use lib.Seq.{getD-set-other}
 use Rattle.paper.specs.Outcome.{Outcome, accepted, refused, refuse-when-at, rows, scan, passed}
 use Rattle.paper.proofs.Scan.{never, scan-all, scan-accepted, refused-same}
 use Rattle.paper.proofs.First.{FirstFault, first-refuses, refuses-first}
-use Rattle.fields.specs.Fields.{fields, ended, isNumber, value}
+use Rattle.fields.specs.Fields.{fields, ended, value}
 use Rattle.forms.specs.declared.Form.{Form}
 use Rattle.forms.specs.Forms.{given, numberIn, outside, numberFault, fault, formIn, read}
 use Rattle.converter.specs.Converter.{asMeant, oldRead}

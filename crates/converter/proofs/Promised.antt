@@ -1,8 +1,8 @@
 -- All that is promised of the converter. Assumes nothing.
-use mathlib.Core.Path.{_≡_, refl, ap, ap₂, _∙_, sym}
+use mathlib.Core.Path.{_≡_, ap, ap₂, _∙_, sym}
 use mathlib.Core.Bool.{true, false}
 use mathlib.Core.List.{List, [], _∷_, _++_}
-use Prim.Native.Nat.{ℕ, _+_, _-_, _≤_, _<_}
+use Prim.Native.Nat.{ℕ, _-_, _≤_}
 use native.Mathlib.Omega.{arith}
 use lib.ListN.{length, getD, set, take, drop, length-append}
 use lib.Seq.{getD-take, take-at, drop-at}
@@ -10,7 +10,7 @@ use borrow.Author.Tests.{le-leb}
 use Rattle.paper.specs.Outcome.{accepted, refused}
 use Rattle.fields.specs.Fields.{lf, fields, isDigit, allDigits, isNumber}
 use Rattle.fields.specs.Inner.{piece}
-use Rattle.fields.proofs.Cutting.{later, rest, cut}
+use Rattle.fields.proofs.Cutting.{cut}
 use Rattle.fields.proofs.Values.{all-parts, number-parts}
 use Rattle.forms.specs.declared.Form.{Form}
 use Rattle.forms.specs.Forms.{given, read}
@@ -20,7 +20,7 @@ use Rattle.converter.specs.Converter.{two, seventh, oldRead, line, conve
 use Rattle.converter.specs.Laws.{Empty, Rewritten, Promised}
 use Rattle.converter.proofs.Meaning.{empty-meant-2}
 use Rattle.converter.proofs.Lines.{line-fields, ends}
-use Rattle.converter.proofs.Old.{full, full-read, filled-same, old-ended, old-seven, meant-line, converted-full, converted-same, converted-refused, accepted-some}
+use Rattle.converter.proofs.Old.{full-read, filled-same, old-ended, old-seven, meant-line, converted-full, converted-same, converted-refused, accepted-some}
 use Rattle.converter.proofs.Bounds.{converted-few, converted-first}
 use Rattle.converter.proofs.NewRule.{new-rule}
 

@@ -3,8 +3,7 @@ use mathlib.Core.Path.{_≡_, ap, ap₂, _∙_, sym, subst}
 use mathlib.Core.List.{List}
 use Prim.Native.Nat.{ℕ, _+_}
 use native.Mathlib.Omega.{arith}
-use lib.ListN.{length, take, drop}
-use lib.Seq.{take-append-seam}
+use lib.ListN.{length, take}
 use Rattle.paper.specs.Outcome.{Outcome, accepted, mapped}
 use Rattle.paper.specs.Memory.{written, Fulfils}
 use Rattle.paper.specs.Readings.{valueOf, passOf}
@@ -27,7 +26,7 @@ use Rattle.writer.specs.Calls.{write}
 use Rattle.reader.specs.Answers.{Size, size, gridOf}
 use Rattle.reader.specs.Calls.{read, sizeOf}
 use Rattle.gridfile.proofs.RoundTrip.{loads-list, read-grid, wrote-file}
-use Rattle.results.specs.Results.{numberResult, passResult, gridResult}
+use Rattle.results.specs.Results.{passResult, gridResult}
 use Rattle.results.specs.Laws.{numbers, words, grids}
 use Rattle.results.specs.declared.NumberResult.{NumberResult}
 use Rattle.results.specs.declared.GridResult.{GridResult}

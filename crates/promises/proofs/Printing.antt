@@ -1,10 +1,10 @@
 -- What the calls that print leave in their buffers, and a stored order run again. Assumes nothing.
-use mathlib.Core.Path.{_≡_, ap, _∙_, sym, subst}
+use mathlib.Core.Path.{_≡_, ap, _∙_, sym}
 use mathlib.Core.List.{List}
 use Prim.Native.Nat.{ℕ}
 use lib.Dec.{ltb}
 use lib.ListN.{length, take}
-use Rattle.paper.specs.Outcome.{Outcome, accepted}
+use Rattle.paper.specs.Outcome.{accepted}
 use Rattle.paper.specs.Memory.{written, Fulfils}
 use Rattle.paper.specs.Readings.{valueOf}
 use Rattle.paper.specs.declared.NumberAnswer.{NumberAnswer}
@@ -19,7 +19,7 @@ use Rattle.converter.proofs.Promised as converter
 use Rattle.results.specs.Laws.{numbers}
 use Rattle.results.specs.declared.NumberResult.{NumberResult}
 use Rattle.interface.specs.Calls.{countOf, OrderResult, ConvertResult}
-use Rattle.promises.specs.OverC.{OverC, Flat}
+use Rattle.promises.specs.OverC.{Flat}
 use Rattle.promises.specs.Printing.{Printed, OfOrders, OfStored}
 use Rattle.promises.proofs.Flat.{returned, front-bytes, count-value}
 use Rattle.promises.proofs.OverC.{over-c}

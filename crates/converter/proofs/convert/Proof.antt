@@ -1,7 +1,6 @@
 -- `convert` meets its contract: a line without a gap is kept, and so is one whose gap is filled. Assumes nothing.
 use mathlib.Core.Path.{sym}
 use native.Mathlib.Omega.{arith}
-use lib.ListN.{length-take}
 use lib.Seq.{length-take-le}
 use Rattle.converter.proofs.Fronts.{front-within, converts-as-is, converts-filled}
 use borrow.Author.Needs.{needs}
