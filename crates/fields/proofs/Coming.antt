@@ -32,7 +32,7 @@ come-start s =
 
 -- what is past the input's end
 module _ (s : List ℕ) (at : ℕ) (past : length s < at) where
-  piece-past : piece (drop at s) ≡ []
+  pub piece-past : piece (drop at s) ≡ []
   unfolding piece
   piece-past = let far : length s ≤ at = omega arith in ap piece (drop-of-length-le s far)
 

@@ -3,7 +3,7 @@
 use mathlib.Core.Path.{_≡_, refl, ap, _∙_, sym}
 use mathlib.Core.Bool.{Bool, true, false, cond}
 use mathlib.Core.List.{List, [], _∷_}
-use Prim.Native.Nat.{ℕ, _+_, _-_, _≤_}
+use Prim.Native.Nat.{ℕ, _+_, _≤_}
 use native.Mathlib.Omega.{arith}
 use lib.Dec.{eqb}
 use lib.ListN.{length, take, drop, length-take, length-drop}
@@ -83,11 +83,6 @@ module _ (s : List ℕ) (at e : ℕ) (inside : at ≤ length s) (end : e ≡ at 
   end-le =
       let front : length (take (length (piece (drop at s))) (drop at s)) ≡ length (piece (drop at s)) = ap length (cut (drop at s) .front) in
       omega (arith, length-take (length (piece (drop at s))) (drop at s), length-drop at s, front)
-
-  pub part-piece : take (e - at) (drop at s) ≡ piece (drop at s)
-  part-piece =
-      let long : e - at ≡ length (piece (drop at s)) = omega arith in
-      ap (λ (k : ℕ). take k (drop at s)) long ∙ cut (drop at s) .front
 
   pub rest-drop : rest (drop at s) ≡ drop e s
   rest-drop = drop-drop (length (piece (drop at s))) at s ∙ ap (λ (k : ℕ). drop k s) (sym end)

@@ -5,3 +5,4 @@ pub mod Coming
 pub mod Onward
 pub mod FirstBytes
 pub mod Values
+pub mod Judging

@@ -1,85 +1,95 @@
--- The number in a field: digit after digit, each makes the number before it ten times as large. Assumes nothing.
-use mathlib.Core.Path.{_≡_, refl, ap, ap₂, _∙_, sym}
-use mathlib.Core.Bool.{Bool, true, false, not, _&&_}
+-- The digits of a field: each makes the number before it ten times as large, and what is left of the field says the rest. Assumes nothing.
+use mathlib.Core.Path.{_≡_, refl, ap, _∙_}
+use mathlib.Core.Bool.{true, false}
 use mathlib.Core.List.{List}
 use Prim.Native.Nat.{ℕ, _+_, _-_, _*_, _^_, _≤_, _<_}
-use native.Mathlib.Nat.{pow-le-pow-right}
+use native.Mathlib.Nat.{add-zero, pow-le-pow-right}
 use native.Mathlib.Omega.{arith}
-use lib.Dec.{eqb, leb}
-use lib.ListN.{length, getD, drop, drop-of-length-le, List·getD-eq-default}
+use lib.ListN.{length, getD, List·getD-eq-default}
 use lib.Pow.{pow-add}
-use borrow.Author.Tests.{eq-eqb, ne-eqb, le-leb, lt-leb}
-use Rattle.paper.specs.Outcome.{accepted, refused, refuse-when}
-use Rattle.fields.specs.Fields.{isDigit, allDigits, leadingZero, valueFrom, value}
-use Rattle.fields.specs.Inner.{number}
-use Rattle.fields.proofs.Cursor.{drop-next}
+use borrow.Author.Tests.{ne-eqb, le-leb, lt-leb}
+use Rattle.fields.specs.Fields.{isDigit, allDigits, leadingZero, valueFrom}
+use Rattle.fields.specs.Inner.{Reached, Ran}
+use Rattle.fields.proofs.Cursor.{piece-more}
 
--- ---- up to 19 digits fit a word
-pub power-small : (i : ℕ) → i < 19 → 10 ^ i ≤ 10 ^ 18
-power-small i small = let few : i ≤ 18 = omega arith in pow-le-pow-right (omega arith) few
+-- ---- nine digits fit a word
+power-small : (i : ℕ) → i < 9 → 10 ^ i ≤ 10 ^ 8
+power-small i small = let few : i ≤ 8 = omega arith in pow-le-pow-right (omega arith) few
 
 pub digit-below : (n i d : ℕ) → n < 10 ^ i → d < 10 → n * 10 + d < 10 ^ (i + 1)
 digit-below n i d below small = rw (pow-add 10 i 1) (omega arith)
 
--- ---- the loop over the digits
-abbrev pub Reached : List ℕ → ℕ → ℕ → Type 0
-Reached f n i = (allDigits f ≡ allDigits (drop i f)) × (value f ≡ valueFrom n (drop i f))
-
+-- ---- a byte is a digit or not
 digit-true : (b : ℕ) → 48 ≤ b → b ≤ 57 → isDigit b ≡ true
 digit-true b low high = simp (le-leb 48 b low, le-leb b 57 high)
 
-module _ (f : List ℕ) (n i : ℕ) (reached : Reached f n i) where
-  pub digits-low : i < length f → getD f i 0 < 48 → allDigits f ≡ false
-  unfolding allDigits
-  digits-low inside low = reached .0 ∙ ap allDigits (drop-next f i inside) ∙ simp (lt-leb 48 (getD f i 0) low)
+digit-low : (b : ℕ) → b < 48 → isDigit b ≡ false
+digit-low b low = simp (lt-leb 48 b low)
 
-  pub digits-high : i < length f → 57 < getD f i 0 → 48 ≤ getD f i 0 → allDigits f ≡ false
-  unfolding allDigits
-  digits-high inside high low = reached .0 ∙ ap allDigits (drop-next f i inside) ∙ simp (le-leb 48 (getD f i 0) low, lt-leb (getD f i 0) 57 high)
+digit-high : (b : ℕ) → 48 ≤ b → 57 < b → isDigit b ≡ false
+digit-high b low high = simp (le-leb 48 b low, lt-leb b 57 high)
 
-  pub digits-more : i < length f → 48 ≤ getD f i 0 → getD f i 0 ≤ 57 → Reached f (n * 10 + (getD f i 0 - 48)) (i + 1)
-  unfolding allDigits valueFrom
-  digits-more inside low high = (
-    reached .0 ∙ ap allDigits (drop-next f i inside) ∙ simp (digit-true (getD f i 0) low high),
-    reached .1 ∙ ap (valueFrom n) (drop-next f i inside),
-  )
+digit-none : (s : List ℕ) (i : ℕ) → length s ≤ i → isDigit (getD s i 0) ≡ false
+digit-none s i past = ap isDigit (List·getD-eq-default s 0 past)
 
-  pub digits-done : length f ≤ i → accepted n ≡ refuse-when (not (allDigits f)) 23 (accepted (value f))
-  unfolding allDigits valueFrom
-  digits-done past =
-      let none = drop-of-length-le f past in
-      let all : allDigits f ≡ true = reached .0 ∙ ap allDigits none in
-      let said : value f ≡ n = reached .1 ∙ ap (valueFrom n) none in
-      sym (ap₂ (λ (t : Bool) (m : ℕ). refuse-when (not t) 23 (accepted m)) all said)
+pub zero-other : (f : List ℕ) → (getD f 0 0 ≡ 48 → ⊥) → leadingZero f ≡ false
+zero-other f other = simp (ne-eqb (getD f 0 0) 48 other)
 
-pub digits-refused : (f : List ℕ) → allDigits f ≡ false → refused 23 0 ≡ refuse-when (not (allDigits f)) 23 (accepted (value f))
-digits-refused f another = simp another
+-- ---- the loop over the digits
+reached-more : (s : List ℕ) (at n i : ℕ) → Reached s at n i → i < length s → 48 ≤ getD s i 0 → getD s i 0 ≤ 57
+    → Reached s at (n * 10 + (getD s i 0 - 48)) (i + 1)
+unfolding allDigits valueFrom
+reached-more s at n i reached there low high =
+    let more = piece-more s i there (λ lf. omega (arith, lf)) (λ semicolon. omega (arith, semicolon)) in
+    record {
+      long = omega (arith, reached .long, ap length more);
+      digits = reached .digits ∙ ap allDigits more ∙ simp (digit-true (getD s i 0) low high);
+      says = reached .says ∙ ap (valueFrom n) more;
+    }
 
--- ---- each way out of the number in a field
-module _ (f : List ℕ) where
-  pub zero-none : length f ≡ 0 → leadingZero f ≡ false
-  zero-none none = ap (λ (b : ℕ). eqb b 48 && not (eqb (length f) 1)) (List·getD-eq-default f 0 (omega arith))
+-- after k digits, with the number n so far
+pub record Passing (s : List ℕ) (at n k : ℕ) : Type 0 where
+  pub few : k ≤ 9
+  pub inside : at + k ≤ length s
+  pub below : n < 10 ^ k
+  pub reached : Reached s at n (at + k)
 
-  pub zero-other : (getD f 0 0 ≡ 48 → ⊥) → leadingZero f ≡ false
-  zero-other other = simp (ne-eqb (getD f 0 0) 48 other)
+pub passing-start : (s : List ℕ) (at : ℕ) → at ≤ length s → Passing s at 0 0
+passing-start s at inside =
+    record {
+      few = omega arith;
+      inside = omega arith;
+      below = omega arith;
+      reached = rw add-zero record { long = refl; digits = refl; says = refl };
+    }
 
-  pub zero-first : getD f 0 0 ≡ 48 → leadingZero f ≡ not (eqb (length f) 1)
-  zero-first first = simp (eq-eqb (getD f 0 0) 48 first)
+module _ {s : List ℕ} {at n k : ℕ} (passing : Passing s at n k) where
+  passing-stop : (k < 9 → isDigit (getD s (at + k) 0) ≡ false) → Ran s at record { number = n; count = k }
+  passing-stop stop = record { inside = passing .inside; few = passing .few; reached = passing .reached; stop = stop }
 
-  pub number-none : length f ≡ 0 → refused 23 0 ≡ number f
-  number-none none = simp none
+  pub passing-past : length s - at ≤ k → Ran s at record { number = n; count = k }
+  passing-past past = passing-stop (λ more. digit-none s (at + k) (omega arith))
 
-  pub number-long : 9 < length f → refused 23 0 ≡ number f
-  number-long long = simp (le-leb 1 (length f) (omega arith), lt-leb (length f) 9 long)
+  pub passing-low : getD s (at + k) 0 < 48 → Ran s at record { number = n; count = k }
+  passing-low low = passing-stop (λ more. digit-low (getD s (at + k) 0) low)
 
-  pub number-zero : leadingZero f ≡ true → refused 23 0 ≡ number f
-  number-zero zero = by-tests (leb 1 (length f)) refl (leb (length f) 9) refl
-    where
-      by-tests : (x : Bool) → leb 1 (length f) ≡ x → (y : Bool) → leb (length f) 9 ≡ y → refused 23 0 ≡ number f
-      by-tests false e y d = simp e
-      by-tests true e false d = simp (e, d)
-      by-tests true e true d = simp (e, d, zero)
+  pub passing-high : 48 ≤ getD s (at + k) 0 → 57 < getD s (at + k) 0 → Ran s at record { number = n; count = k }
+  passing-high low high = passing-stop (λ more. digit-high (getD s (at + k) 0) low high)
 
-  pub number-digits : leadingZero f ≡ false → (length f ≡ 0 → ⊥) → length f ≤ 9
-      → refuse-when (not (allDigits f)) 23 (accepted (value f)) ≡ number f
-  number-digits plain some short = simp (le-leb 1 (length f) (omega arith), le-leb (length f) 9 short, plain)
+  pub passing-done : 9 ≤ k → Ran s at record { number = n; count = k }
+  passing-done done = passing-stop (λ more. absurd (omega arith))
+
+  module _ (more : k < 9) where
+    pub passing-small : n < 10 ^ 8
+    passing-small = omega (arith, passing .below, power-small k more)
+
+    pub passing-more : k < length s - at → 48 ≤ getD s (at + k) 0 → getD s (at + k) 0 ≤ 57
+        → Passing s at (n * 10 + (getD s (at + k) 0 - 48)) (k + 1)
+    passing-more there low high =
+        let next : at + (k + 1) ≡ at + k + 1 = omega arith in
+        record {
+          few = omega arith;
+          inside = omega arith;
+          below = digit-below n k (getD s (at + k) 0 - 48) (passing .below) (omega arith);
+          reached = rw next (reached-more s at n (at + k) (passing .reached) (omega arith) low high);
+        }

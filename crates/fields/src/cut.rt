@@ -1,8 +1,22 @@
 // Where the fields of a line begin and end.
 ghost use mathlib.Core.Path.{_≡_};
 ghost use Prim.Native.Nat.{_+_};
+ghost use lib.Dec.{eqb};
 ghost use lib.ListN.{length, drop};
 ghost use Rattle.fields.specs.Inner.{piece, next, closes};
+
+// Whether a field ends at `i`: there is a semicolon or LF, or nothing.
+pub fn ends(input: &[u8], i: usize) -> bool
+    ensures { λ r. ⌜ r ≡ eqb (length (piece (drop i (now (input .entry))))) 0 ⌝ }
+{
+    if input.len() <= i {
+        return true;
+    }
+    if input[i] == b'\n' {
+        return true;
+    }
+    input[i] == b';'
+}
 
 // Where the field that begins at `at` ends: at the next semicolon or LF, or where the input ends.
 pub fn end(input: &[u8], at: usize) -> usize

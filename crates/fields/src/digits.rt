@@ -1,60 +1,78 @@
 // The number in a field.
-use paper::NumberAnswer;
+use crate::cut;
 ghost use mathlib.Core.Path.{_≡_};
-ghost use mathlib.Core.Bool.{not};
-ghost use Prim.Native.Nat.{_≤_};
-ghost use lib.ListN.{length};
-ghost use Rattle.paper.specs.Outcome.{accepted, refuse-when};
-ghost use Rattle.paper.specs.Readings.{valueOf};
-ghost use Rattle.fields.specs.Fields.{allDigits, leadingZero, value};
-ghost use Rattle.fields.specs.Inner.{number as Inner·number};
+ghost use Prim.Native.Nat.{_≤_, _<_};
+ghost use lib.ListN.{length, getD};
+ghost use Rattle.fields.specs.Inner.{Ran, zeroFirst, numberedOf, numberAt};
 
-// Whether a zero stands in front of other digits.
-fn leading_zero(f: &[u8]) -> bool
-    ensures { λ r. ⌜ r ≡ leadingZero (now (f .entry)) ⌝ }
-{
-    if f.len() == 0 {
-        return false;
-    }
-    if f[0] != b'0' {
-        return false;
-    }
-    f.len() != 1
+// The most digits of a number.
+const MOST: usize = 9;
+
+// The number in a field, and where the field ends.
+pub enum Numbered {
+    Is(u64, usize),
+    Refused(u8, u64),
 }
 
-// What up to 19 digits say, which fit a word; refused where there is another byte.
-fn digits(f: &[u8]) -> NumberAnswer
-    requires { ⌜ length (now f) ≤ 19 ⌝ }
-    ensures { λ r. ⌜ valueOf r ≡ refuse-when (not (allDigits (now (f .entry)))) 23 (accepted (value (now (f .entry)))) ⌝ }
+// Some digits: what they say, and how many there are.
+struct Run {
+    number: u64,
+    count: usize,
+}
+
+// The digits from `at` on, up to the first other byte; no more than a number has.
+fn digits(input: &[u8], at: usize) -> Run
+    requires { ⌜ at ≤ length (now input) ⌝ }
+    ensures { λ r. ⌜ Ran (now (input .entry)) at r ⌝ }
 {
-    let mut n: u64 = 0;
-    let mut i = 0;
-    while i < f.len() {
-        let b = f[i] as u64;
+    let rest = input.len() - at;
+    let mut number: u64 = 0;
+    let mut k = 0;
+    while k < MOST {
+        if rest <= k {
+            return Run { number, count: k };
+        }
+        let b = input[at + k] as u64;
         if b < 48 {
-            return NumberAnswer::Refused(23, 0);
+            return Run { number, count: k };
         }
         if 57 < b {
-            return NumberAnswer::Refused(23, 0);
+            return Run { number, count: k };
         }
-        n = n * 10 + (b - 48);
-        i += 1;
+        number = number * 10 + (b - 48);
+        k += 1;
     }
-    NumberAnswer::Is(n)
+    Run { number, count: k }
 }
 
-// The number in a field: 1 to 9 digits without a leading zero, except 0 itself. Refused: 23.
-pub fn number(f: &[u8]) -> NumberAnswer
-    ensures { λ r. ⌜ valueOf r ≡ Inner·number (now (f .entry)) ⌝ }
+// Whether a zero stands at `at`, the first of so many digits and not the only one.
+fn leading_zero(input: &[u8], at: usize, count: usize) -> bool
+    requires { ⌜ at < length (now input) ⌝ }
+    ensures { λ r. ⌜ r ≡ zeroFirst (getD (now (input .entry)) at 0) count ⌝ }
 {
-    if f.len() == 0 {
-        return NumberAnswer::Refused(23, 0);
+    if input[at] != b'0' {
+        return false;
     }
-    if 9 < f.len() {
-        return NumberAnswer::Refused(23, 0);
+    count != 1
+}
+
+// The number in the field that begins at `at`: 1 to 9 digits without a leading zero, except 0 itself. Refused: 23.
+pub fn number_at(input: &[u8], at: usize) -> Numbered
+    ensures { λ r. ⌜ numberedOf r ≡ numberAt (now (input .entry)) at ⌝ }
+{
+    if input.len() <= at {
+        return Numbered::Refused(23, 0);
     }
-    if leading_zero(f) {
-        return NumberAnswer::Refused(23, 0);
+    let run = digits(input, at);
+    if run.count == 0 {
+        return Numbered::Refused(23, 0);
     }
-    digits(f)
+    let end = at + run.count;
+    if !cut::ends(input, end) {
+        return Numbered::Refused(23, 0);
+    }
+    if leading_zero(input, at, run.count) {
+        return Numbered::Refused(23, 0);
+    }
+    Numbered::Is(run.number, end)
 }

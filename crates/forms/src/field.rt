@@ -1,8 +1,7 @@
 // One field of the order line: its number, and its refusal.
 use crate::range;
-use fields::cut;
 use fields::digits;
-use paper::NumberAnswer;
+use fields::digits::Numbered;
 ghost use Rattle.forms.specs.Inner.{Taken};
 
 // A field: its refusal, 0 where there is none, and then its number and where it ends.
@@ -16,24 +15,16 @@ pub(crate) struct Found {
 pub(crate) fn take(input: &[u8], at: usize, i: usize, k: u64, highest: u64) -> Found
     ensures { λ r. ⌜ Taken (now (input .entry)) at i k highest r ⌝ }
 {
-    if input.len() < at {
+    let Numbered::Is(number, end) = digits::number_at(input, at) else {
         return Found {
             fault: 23,
             number: 0,
             end: at,
         };
-    }
-    let end = cut::end(input, at);
-    let NumberAnswer::Is(v) = digits::number(&input[at..end]) else {
-        return Found {
-            fault: 23,
-            number: 0,
-            end,
-        };
     };
     Found {
-        fault: range::outside(i, v, k, highest),
-        number: v,
+        fault: range::outside(i, number, k, highest),
+        number,
         end,
     }
 }

@@ -1,11 +1,11 @@
 -- `end` meets its contract: what is left of the field grows shorter by each byte passed, and where it is none the field ends.
 -- Assumes nothing.
-use mathlib.Core.Path.{_≡_}
+use mathlib.Core.Path.{_≡_, ap}
 use Prim.Native.Nat.{_+_, _-_}
 use native.Mathlib.Omega.{arith}
 use lib.ListN.{length, drop}
 use Rattle.fields.specs.Inner.{piece}
-use Rattle.fields.proofs.Cursor.{end-none, end-lf, end-semicolon, end-more}
+use Rattle.fields.proofs.Cursor.{end-none, end-lf, end-semicolon, piece-more}
 use Rattle.fields.proofs.cut.end.Statement.{statement}
 use Rattle.fields.proofs.cut.end.Tie as tie
 
@@ -45,7 +45,7 @@ loop-again : tie.Need-loop-again Inv-loop μ-loop
 loop-again c =
     let at-if1 = c .before .before in
     let at-loop = at-if1 .before .before .before in
-    omega (arith, end-more (at-loop .before .args .input .now) (at-loop .loop .i) (omega arith) (at-if1 .if1 .left) (c .if2 .left))
+    omega (arith, ap length (piece-more (at-loop .before .args .input .now) (at-loop .loop .i) (omega arith) (at-if1 .if1 .left) (c .if2 .left)))
 
 returns-3 : tie.Need-returns-3 Inv-loop μ-loop
 returns-3 c = omega (arith, end-none (c .before .before .args .input .now) (c .before .loop .i) (omega arith))

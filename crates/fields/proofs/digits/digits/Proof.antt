@@ -1,62 +1,67 @@
--- `digits` meets its contract: after i digits, the number so far and the digits left say what all of them say. Assumes nothing.
-use mathlib.Core.Path.{refl}
-use Prim.Native.Nat.{_-_, _^_, _≤_, _<_}
+-- `digits` meets its contract: after k digits, the number so far and what is left of the field say what the field says. Assumes nothing.
+use Prim.Native.Nat.{_+_, _-_}
 use native.Mathlib.Omega.{arith}
-use lib.ListN.{length, getD}
-use Rattle.fields.proofs.Numbers.{Reached, power-small, digit-below, digits-low, digits-high, digits-more, digits-done, digits-refused}
+use Rattle.fields.proofs.Numbers.{Passing, passing-start, passing-past, passing-low, passing-high, passing-done, passing-small, passing-more}
 use Rattle.fields.proofs.digits.digits.Statement.{statement}
 use Rattle.fields.proofs.digits.digits.Tie as tie
 
 abbrev Inv-loop : tie.InvT-loop
-Inv-loop f n₀ i₀ n i = (i ≤ length f) × (n < 10 ^ i) × Reached f n i
+Inv-loop input at rest number₀ k₀ number k = Passing input at number k
 
 abbrev μ-loop : tie.MeasureT-loop
-μ-loop f n₀ i₀ n i = length f - i
+μ-loop input at rest number₀ k₀ number k = 9 - k
+
+sub-rest : tie.Need-sub-rest Inv-loop μ-loop
+sub-rest c = c .pre
 
 loop-holds : tie.Need-loop-holds Inv-loop μ-loop
-loop-holds c = (omega arith, omega arith, (refl, refl))
+loop-holds c = passing-start (c .args .input .now) (c .args .at) (c .pre)
+
+returns : tie.Need-returns Inv-loop μ-loop
+returns c = passing-past (c .before .before .loop .inv) (c .if1 .taken)
+
+add-b : tie.Need-add-b Inv-loop μ-loop
+add-b c = omega arith
 
 shared-slice-read-b : tie.Need-shared-slice-read-b Inv-loop μ-loop
 shared-slice-read-b c = omega arith
 
 cast-b : tie.Need-cast-b Inv-loop μ-loop
-cast-b c = omega (arith, (c .shared-slice-known .given) (c .before .before .loop .i))
-
-returns : tie.Need-returns Inv-loop μ-loop
-returns c =
+cast-b c =
     let at-loop = c .before .before .before in
-    let a = at-loop .before .args in
-    let l = at-loop .loop in
-    digits-refused (a .f .now) (digits-low (a .f .now) (l .n) (l .i) (l .inv .2) (omega arith) (omega (arith, c .if1 .taken)))
+    omega (arith, c .shared-slice-known .given (at-loop .before .args .at + at-loop .loop .k))
 
 returns-2 : tie.Need-returns-2 Inv-loop μ-loop
-returns-2 c =
-    let at-loop = c .before .before .before .before in
-    let a = at-loop .before .args in
-    let l = at-loop .loop in
-    digits-refused (a .f .now) (digits-high (a .f .now) (l .n) (l .i) (l .inv .2) (omega arith) (omega (arith, c .if2 .taken)) (omega (arith, c .if2 .taken)))
+returns-2 c = passing-low (c .before .before .before .before .loop .inv) (omega (arith, c .if2 .taken))
 
-mul-n : tie.Need-mul-n Inv-loop μ-loop
-mul-n c = omega (arith, power-small (c .before .before .before .before .loop .i) (omega arith))
+returns-3 : tie.Need-returns-3 Inv-loop μ-loop
+returns-3 c = passing-high (c .before .before .before .before .before .loop .inv) (omega (arith, c .before .if2 .left)) (omega (arith, c .if3 .taken))
 
-add-n : tie.Need-add-n Inv-loop μ-loop
-add-n c = omega (arith, power-small (c .before .before .before .before .loop .i) (omega arith))
+mul-number : tie.Need-mul-number Inv-loop μ-loop
+mul-number c =
+    let at-test = c .before .before .before .before in
+    omega (arith, passing-small (at-test .before .loop .inv) (omega (arith, at-test .loop-test .taken)))
 
-add-i : tie.Need-add-i Inv-loop μ-loop
-add-i c = omega arith
+add-number : tie.Need-add-number Inv-loop μ-loop
+add-number c =
+    let at-test = c .before .before .before .before in
+    omega (arith, passing-small (at-test .before .loop .inv) (omega (arith, at-test .loop-test .taken)))
+
+add-k : tie.Need-add-k Inv-loop μ-loop
+add-k c = omega arith
 
 loop-less : tie.Need-loop-less Inv-loop μ-loop
 loop-less c = omega arith
 
 loop-again : tie.Need-loop-again Inv-loop μ-loop
 loop-again c =
-    let at-loop = c .before .before .before .before in
-    let a = at-loop .before .args in
-    let l = at-loop .loop in
-    (omega arith, digit-below (l .n) (l .i) (getD (a .f .now) (l .i) 0 - 48) (l .inv .1) (omega arith), digits-more (a .f .now) (l .n) (l .i) (l .inv .2) (omega arith) (omega (arith, c .before .if1 .left)) (omega (arith, c .if2 .left)))
+    let at-if1 = c .before .before .before in
+    let at-test = at-if1 .before in
+    passing-more (at-test .before .loop .inv) (omega (arith, at-test .loop-test .taken)) (at-if1 .if1 .left)
+    (omega (arith, c .before .if2 .left)) (omega (arith, c .if3 .left))
 
-returns-3 : tie.Need-returns-3 Inv-loop μ-loop
-returns-3 c = digits-done (c .before .before .args .f .now) (c .before .loop .n) (c .before .loop .i) ((c .before .loop .inv .2)) (omega arith)
+returns-4 : tie.Need-returns-4 Inv-loop μ-loop
+returns-4 c = passing-done (c .before .loop .inv) (omega (arith, c .loop-test .left))
 
 pub digits-spec : {M : Type 1} → statement M
 digits-spec =
@@ -64,14 +69,17 @@ digits-spec =
     (tie.spec
     Inv-loop
     μ-loop
+    sub-rest
     loop-holds
+    returns
+    add-b
     shared-slice-read-b
     cast-b
-    returns
     returns-2
-    mul-n
-    add-n
-    add-i
+    returns-3
+    mul-number
+    add-number
+    add-k
     loop-less
     loop-again
-    returns-3)
+    returns-4)
