@@ -75,9 +75,6 @@ none-of [] none = refl
 none-of (a ∷ l) none = absurd (omega arith)
 
 module _ (s : List ℕ) where
-  abbrev parts : List (List ℕ)
-  parts = piece s ∷ later (rest s)
-
   fills-empty : length (piece s) ≡ 0 → Fills 0 s (two ∷ s)
   unfolding fields ended
   fills-empty none =

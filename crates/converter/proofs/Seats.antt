@@ -1,8 +1,10 @@
 -- Where field seven begins: byte after byte, with the semicolons that are still to come. Assumes nothing.
 use mathlib.Core.Path.{_≡_, ap, _∙_, sym}
+use mathlib.Core.Bool.{true, false}
 use mathlib.Core.List.{List, [], _∷_}
 use Prim.Native.Nat.{ℕ, suc, _+_, _-_, _≤_, _<_}
 use native.Mathlib.Omega.{arith}
+use lib.Dec.{eqb}
 use lib.ListN.{length, getD, drop, length-drop, drop-of-length-le}
 use lib.Seq.{drop-cons}
 use borrow.Author.Tests.{eq-eqb, ne-eqb}
@@ -70,13 +72,10 @@ module _ {s : List ℕ} {k i : ℕ} (seat : Seat s k i) (some : k ≡ 0 → ⊥)
           same = omega (arith, seat .same, next, ap (λ (j : ℕ). begins k (drop j s)) one);
         }
 
--- ---- whether it is empty: e is where it ends
-module _ (s : List ℕ) (at e : ℕ) (seat : at ≡ begins 6 s) (end : e ≡ at + length (piece (drop at s))) where
-  same-gap : gapAt s at ≡ gap s
-  same-gap = ap (gapAt s) seat
+-- ---- whether it is empty: it ends where it begins
+module _ (s : List ℕ) (at : ℕ) (seat : at ≡ begins 6 s) where
+  pub gap-here : eqb (length (piece (drop at s))) 0 ≡ true → at ≡ gap s
+  gap-here none = sym (simp none) ∙ ap (gapAt s) seat
 
-  pub gap-none : (e ≡ at → ⊥) → length s + 1 ≡ gap s
-  gap-none some = sym (simp (ne-eqb (length (piece (drop at s))) 0 (λ none. some (omega (arith, none, end))))) ∙ same-gap
-
-  pub gap-here : e ≡ at → at ≡ gap s
-  gap-here none = sym (simp (eq-eqb (length (piece (drop at s))) 0 (omega (arith, none, end)))) ∙ same-gap
+  pub gap-none : eqb (length (piece (drop at s))) 0 ≡ false → length s + 1 ≡ gap s
+  gap-none some = sym (simp some) ∙ ap (gapAt s) seat

@@ -46,10 +46,10 @@ pub(crate) fn gap(input: &[u8]) -> usize
     ensures { λ r. ⌜ r ≡ Inner·gap (now (input .entry)) ⌝ }
 {
     let at = seventh(input);
-    if cut::end(input, at) != at {
-        return input.len() + 1;
+    if cut::ends(input, at) {
+        return at;
     }
-    at
+    input.len() + 1
 }
 
 // The line with a 2 put in at `at`, at the front of a buffer, and how many bytes it has.

@@ -1,6 +1,5 @@
 // Where the fields of a line begin and end.
 ghost use mathlib.Core.Path.{_≡_};
-ghost use Prim.Native.Nat.{_+_};
 ghost use lib.Dec.{eqb};
 ghost use lib.ListN.{length, drop};
 ghost use Rattle.fields.specs.Inner.{piece, next, closes};
@@ -16,23 +15,6 @@ pub fn ends(input: &[u8], i: usize) -> bool
         return true;
     }
     input[i] == b';'
-}
-
-// Where the field that begins at `at` ends: at the next semicolon or LF, or where the input ends.
-pub fn end(input: &[u8], at: usize) -> usize
-    ensures { λ r. ⌜ r ≡ at + length (piece (drop at (now (input .entry)))) ⌝ }
-{
-    let mut i = at;
-    while i < input.len() {
-        if input[i] == b'\n' {
-            return i;
-        }
-        if input[i] == b';' {
-            return i;
-        }
-        i += 1;
-    }
-    i
 }
 
 // Where the field after the one that ended at `end` begins; past the input where there is none.

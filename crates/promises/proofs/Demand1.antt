@@ -6,7 +6,7 @@ use Prim.Native.Nat.{ℕ, _+_, _*_, _^_}
 use native.Mathlib.Nat.{le-refl}
 use native.Mathlib.Omega.{arith}
 use lib.Dec.{leb, ltb}
-use lib.ListN.{length}
+use lib.ListN.{length, drop}
 use Rattle.paper.specs.Outcome.{Outcome, scan}
 use Rattle.paper.specs.Memory.{written}
 use Rattle.paper.specs.Readings.{valueOf, truthOf, comparisonOf, passOf}
@@ -29,6 +29,7 @@ use Rattle.corners.specs.declared.Point.{Point}
 use Rattle.corners.specs.CornerPoints.{rootWithin, cornerPoint, pointOf}
 use Rattle.corners.specs.Section.{PointColumns, equalLengths, cornerPoints, filled}
 use Rattle.fields.specs.Fields.{isNumber}
+use Rattle.fields.specs.Inner.{piece, numberedOf}
 use Rattle.forms.specs.Forms.{formOf}
 use Rattle.forms.proofs.Refusals.{read-refused}
 use Rattle.text.specs.Text.{longestOutput}
@@ -43,7 +44,7 @@ use Rattle.promises.specs.Refusals.{Refuses}
 use Rattle.promises.specs.Demand1.{OnLists, OnParts, OfCalls}
 use Rattle.promises.proofs.Refusals.{no-fault, fault-so, in-turn, when, fine, room-so, at0, at1, at2, at3, at4}
 use Rattle.promises.proofs.Calls.{answer, lent}
-use Rattle.promises.proofs.Determined.{lines, triangles, prisms, numbers, truths, comparisons, passes, grids, found-numbers, points, heads, forms-read}
+use Rattle.promises.proofs.Determined.{lines, triangles, prisms, numbers, truths, comparisons, passes, grids, found-numbers, field-numbers, points, heads, forms-read}
 use Rattle.promises.proofs.ElementCalls.{on-elements}
 use Rattle.promises.proofs.ShapeCalls.{line-rows, triangle-rows, prism-rows}
 use Rattle.promises.proofs.ListCalls.{check-so, balanced-so, uniform-so, check-marks-so, adapt-so, shares-so}
@@ -102,7 +103,7 @@ on-parts =
       lay = λ at k root level position m r s a b f g.
           let same = f .answer ∙ sym (g .answer) in
           (same, f .memory ∙ stretch-one root level position m r s same at ∙ sym (g .memory));
-      number = λ f. answer valueOf numbers (when (not (isNumber f)) 23 at0 (λ is. fine _));
+      field-number = λ s at. answer numberedOf field-numbers (when (not (isNumber (piece (drop at s)))) 23 at0 (λ is. fine _));
       answer = λ bytes m. lent valueOf numbers length written (room-so (length bytes) (length m) bytes at0 (le-refl (length bytes)));
       print = λ bytes m r s a b f g. (f .end ∙ sym (g .end), f .written ∙ sym (g .written));
       lay-bytes = λ at bytes m r s a b f g. (refl, f ∙ sym g);

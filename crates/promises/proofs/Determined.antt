@@ -28,6 +28,9 @@ use Rattle.format.specs.Reading.{Head}
 use Rattle.sounding.specs.Answers.{headOf}
 use Rattle.sounding.specs.declared.HeadAnswer.{HeadAnswer}
 use Rattle.sounding.specs.declared.HeadAnswer.the-variants as head-answer
+use Rattle.fields.specs.Inner.{numberedOf}
+use Rattle.fields.specs.declared.digits.Numbered.{Numbered}
+use Rattle.fields.specs.declared.digits.Numbered.the-variants as field-number
 use Rattle.forms.specs.Forms.{formOf}
 use Rattle.forms.specs.declared.FormAnswer.{FormAnswer}
 use Rattle.forms.specs.declared.FormAnswer.the-variants as form-answer
@@ -105,6 +108,16 @@ grids = determined-by gridOf (answer loaded grid-answer.Refused) undo
 
 abbrev found-is : Found → FoundNumber
 found-is r = found-number.Is (r .value) (r .next)
+
+pub field-numbers : Determined numberedOf
+field-numbers = determined-by numberedOf back undo
+  where
+    back : Outcome (ℕ × ℕ) → Numbered
+    back = answer (λ p. field-number.Is (p .0) (p .1)) field-number.Refused
+
+    undo : (r : Numbered) → back (numberedOf r) ≡ r
+    undo (field-number.Is n e) = refl
+    undo (field-number.Refused n p) = refl
 
 pub found-numbers : Determined foundOf
 found-numbers = determined-by foundOf (answer found-is found-number.Refused) undo

@@ -14,11 +14,11 @@
 --                          runs of two numbers of three bytes
 --   OnLists                the calls on lists and files
 --   OnParts                functions that only this house calls: order of `tree`, check of `positions` and of `marks`, number_at of `numbers`,
---                          head_at and sound of `sounding`, lay of `columns`, number of `fields`, answer, print and lay of `text`. The last two are
+--                          head_at and sound of `sounding`, lay of `columns`, number_at of `fields`, answer, print and lay of `text`. The last two are
 --                          no calls of the paper: they write what has room, and print answers how many bytes there are. Their words:
---                          `tree/specs/Words.antt`,
---                          `positions/specs/Positions.antt`, `marks/specs/Marks.antt`, `numbers/specs/Numbers.antt`,
---                          `sounding/specs/Answers.antt`, `columns/specs/Laying.antt`, and `Inner.antt` of `fields` and `text`
+--                          `tree/specs/Words.antt`, `positions/specs/Positions.antt`, `marks/specs/Marks.antt`,
+--                          `numbers/specs/Numbers.antt`, `sounding/specs/Answers.antt`, `columns/specs/Laying.antt`, `text/specs/Text.antt`,
+--                          and `Inner.antt` of `fields` and `text`
 --   OfCalls                demand 1
 --
 -- Assumes nothing.
@@ -118,7 +118,7 @@ pub record OnParts : Type 0 where
       → Call {M = Unit {0}} (λ (r : Sounding). checksOf (r .fault)) (19 ∷ 20 ∷ 1 ∷ 21 ∷ 15 ∷ 12 ∷ 22 ∷ []) (h .next + 6 * h .runs) tt
       (λ r m′. Tells r (sound CHILDREN HIGHEST bytes h))
   pub lay : (at k root level position : ℕ) (m : Columns) → Decided (λ count m′. Laid at k root level position count m m′)
-  pub number : (f : List ℕ) → Answer valueOf (23 ∷ []) 0 (fields.number f)
+  pub field-number : (s : List ℕ) (at : ℕ) → Answer fields.numberedOf (23 ∷ []) 0 (fields.numberAt s at)
   pub answer : (bytes m : List ℕ) → Call valueOf (14 ∷ []) (length bytes) m (λ r m′. Prints bytes r m m′)
   pub print : (bytes m : List ℕ) → Decided (λ end m′. Put bytes 0 m m′ end)
   pub lay-bytes : (at : ℕ) (bytes m : List ℕ) → Decided (λ (r : Unit {0}) m′. m′ ≡ sets m at bytes)
