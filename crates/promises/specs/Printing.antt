@@ -23,7 +23,8 @@ use Rattle.converter.specs.Laws as converter
 use Rattle.results.specs.declared.NumberResult.{NumberResult}
 use Rattle.interface.specs.Calls.{OrderResult, ConvertResult}
 
-pub record Printed (shown : List ℕ → List ℕ) (C : NumberAnswer → List ℕ → List ℕ → List ℕ → Type 0) (D : NumberResult → List ℕ → List ℕ → List ℕ → Type 0) : Type 0 where
+pub record Printed (shown : List ℕ → List ℕ) (C : NumberAnswer → List ℕ → List ℕ → List ℕ → Type 0)
+    (D : NumberResult → List ℕ → List ℕ → List ℕ → Type 0) : Type 0 where
   pub in-memory : (input : List ℕ) (N : ℕ) (r : NumberAnswer) (m m′ : List ℕ) → C r input m m′ → valueOf r ≡ accepted N → take N m′ ≡ shown input
   pub over-c : (input : List ℕ) (r : NumberResult) (m m′ : List ℕ) → D r input m m′ → r .refusal ≡ 0 → take (r .value) m′ ≡ shown input
 
