@@ -1,5 +1,5 @@
--- Closed cases of document 01, "Order program", and of document 02, ticket 2, computed by the checker: the example's output byte for byte, and a refusal of each kind.
--- Assumes nothing.
+-- Closed cases of document 01, "Order program", and of document 02, ticket 2, computed by the checker: the example's output byte for byte, and a
+-- refusal of each kind. Assumes nothing.
 use mathlib.Core.Path.{_≡_, refl}
 use mathlib.Core.List.{List, [], _∷_}
 use Prim.Native.Nat.{ℕ}
