@@ -28,7 +28,7 @@ int main(void)
         size_t length = strlen(stored[i]);
         print("as it is", text, gw_order(bytes, length, text, sizeof text));
         size_t converted = print("converted", line, gw_convert(bytes, length, line, sizeof line));
-        /* A refusal begins with no digit. */
+        /* A refusal begins with an r, an order line with a digit. */
         if (line[0] != 'r')
             print("and run", text, gw_order(line, converted, text, sizeof text));
     }

@@ -36,7 +36,7 @@ pub fn convert(input: &[u8], out: &mut [u8]) -> Result<u64, Refusal> {
 mod tests {
     use super::*;
 
-    /// The safe calls drop the value of a refused one, which must be 0; lengths are taken from their own bytes.
+    /// The safe calls drop the value of a refused one, which must be 0; each length is that of its own bytes.
     #[test]
     fn raw_answers() {
         let line = b"1042;7;3;1;4;3;\n\n";

@@ -1,6 +1,7 @@
 -- Closed cases of document 02, ticket 2, computed by the checker: what the converter prints, byte for byte. Assumes nothing.
 use mathlib.Core.Path.{_≡_, refl}
-use mathlib.Core.List.{[], _∷_}
+use mathlib.Core.List.{List, [], _∷_}
+use Prim.Native.Nat.{ℕ}
 use lib.ListN.{length}
 use Rattle.fields.specs.Fields.{fields, ended, allDigits, valueFrom}
 use Rattle.text.specs.Text.{decimalIn}
@@ -41,11 +42,10 @@ an-earlier-field : converted (49 ∷ 48 ∷ 52 ∷ 50 ∷ 59 ∷ 55 ∷ 59 ∷ 5
 unfolding fields ended allDigits valueFrom decimalIn line
 an-earlier-field = refl
 
--- the longest line: 45 bytes
-the-longest : converted (57 ∷ 57 ∷ 57 ∷ 57 ∷ 57 ∷ 57 ∷ 57 ∷ 57 ∷ 57 ∷ 59 ∷ 57 ∷ 57 ∷ 57 ∷ 57 ∷ 57 ∷ 57 ∷ 57 ∷ 57 ∷ 57 ∷ 59 ∷ 57 ∷ 57 ∷ 57 ∷ 57 ∷ 57 ∷ 57 ∷ 57 ∷ 57 ∷ 57 ∷ 59 ∷ 52 ∷ 48 ∷ 57 ∷ 54 ∷ 59 ∷ 50 ∷ 49 ∷ 59 ∷ 52 ∷ 48 ∷ 57 ∷ 54 ∷ 59 ∷ 10 ∷ []) ≡ 57 ∷ 57 ∷ 57 ∷ 57 ∷ 57 ∷ 57 ∷ 57 ∷ 57 ∷ 57 ∷ 59 ∷ 57 ∷ 57 ∷ 57 ∷ 57 ∷ 57 ∷ 57 ∷ 57 ∷ 57 ∷ 57 ∷ 59 ∷ 57 ∷ 57 ∷ 57 ∷ 57 ∷ 57 ∷ 57 ∷ 57 ∷ 57 ∷ 57 ∷ 59 ∷ 52 ∷ 48 ∷ 57 ∷ 54 ∷ 59 ∷ 50 ∷ 49 ∷ 59 ∷ 52 ∷ 48 ∷ 57 ∷ 54 ∷ 59 ∷ 50 ∷ 10 ∷ []
-unfolding fields ended allDigits valueFrom decimalIn line
-the-longest = refl
+-- `999999999;999999999;999999999;4096;21;4096;`: the longest line, with its 2 45 bytes
+longest : List ℕ
+longest = 57 ∷ 57 ∷ 57 ∷ 57 ∷ 57 ∷ 57 ∷ 57 ∷ 57 ∷ 57 ∷ 59 ∷ 57 ∷ 57 ∷ 57 ∷ 57 ∷ 57 ∷ 57 ∷ 57 ∷ 57 ∷ 57 ∷ 59 ∷ 57 ∷ 57 ∷ 57 ∷ 57 ∷ 57 ∷ 57 ∷ 57 ∷ 57 ∷ 57 ∷ 59 ∷ 52 ∷ 48 ∷ 57 ∷ 54 ∷ 59 ∷ 50 ∷ 49 ∷ 59 ∷ 52 ∷ 48 ∷ 57 ∷ 54 ∷ 59 ∷ 10 ∷ []
 
-longest-reached : length (converted (57 ∷ 57 ∷ 57 ∷ 57 ∷ 57 ∷ 57 ∷ 57 ∷ 57 ∷ 57 ∷ 59 ∷ 57 ∷ 57 ∷ 57 ∷ 57 ∷ 57 ∷ 57 ∷ 57 ∷ 57 ∷ 57 ∷ 59 ∷ 57 ∷ 57 ∷ 57 ∷ 57 ∷ 57 ∷ 57 ∷ 57 ∷ 57 ∷ 57 ∷ 59 ∷ 52 ∷ 48 ∷ 57 ∷ 54 ∷ 59 ∷ 50 ∷ 49 ∷ 59 ∷ 52 ∷ 48 ∷ 57 ∷ 54 ∷ 59 ∷ 10 ∷ [])) ≡ longestLine
-unfolding fields ended allDigits valueFrom decimalIn line
+longest-reached : length (converted longest) ≡ longestLine
+unfolding longest fields ended allDigits valueFrom decimalIn line
 longest-reached = refl

@@ -1,5 +1,6 @@
 -- The line at the front of a buffer, with its gap filled, and what is printed for a line without a gap. Assumes nothing.
 use mathlib.Core.Path.{_≡_, refl, ap, ap₂, _∙_, sym, subst, subst⁻¹}
+use mathlib.Core.Bool.{true, false, true≢false, false≢true}
 use mathlib.Core.List.{List, [], _∷_, _++_}
 use Prim.Native.Nat.{ℕ, _+_, _-_, _≤_, _<_}
 use native.Mathlib.Omega.{arith}
@@ -16,7 +17,7 @@ use Rattle.text.specs.Inner.{spelled}
 use Rattle.text.proofs.Buffers.{laid}
 use Rattle.converter.specs.Converter.{two, oldRead, unlessRefused, converted}
 use Rattle.converter.specs.Calls.{Converts}
-use Rattle.converter.specs.Inner.{gap, filled, kept, Front}
+use Rattle.converter.specs.Inner.{gap, filled, isOrder, kept, Front}
 use Rattle.converter.proofs.Old.{full, old-read, converted-full, converted-refused}
 use Rattle.converter.proofs.Bounds.{converted-first}
 
@@ -51,20 +52,22 @@ module _ (s l : List ℕ) (at : ℕ) (inside : at ≤ length s) (room : length s
       (subst⁻¹ (Front u l₃) size (front-laid u l fits l₃ put))
 
 -- ---- what is printed for a line without a gap
-module _ (t : List ℕ) (o : Outcome Form) (is : o ≡ read t) where
-  pub kept-line : (f : Form) → o ≡ accepted f → t ≡ kept t
-  kept-line f said = ap (λ (o′ : Outcome Form). unlessRefused o′ t) (sym said ∙ is)
+module _ (t : List ℕ) where
+  pub kept-line : (o : Outcome Form) → o ≡ read t → isOrder o ≡ true → t ≡ kept t
+  kept-line (accepted f) is so = ap (λ (o : Outcome Form). unlessRefused o t) is
+  kept-line (refused number field) is so = absurd (false≢true so)
 
-  pub kept-refusal : (number field : ℕ) → o ≡ refused number field → spelled o ≡ kept t
-  kept-refusal number field said = ap spelled said ∙ ap (λ (o′ : Outcome Form). unlessRefused o′ t) (sym said ∙ is)
+  pub kept-refusal : (o : Outcome Form) → o ≡ read t → isOrder o ≡ false → spelled o ≡ kept t
+  kept-refusal (accepted f) is so = absurd (true≢false so)
+  kept-refusal (refused number field) is so = ap (λ (o : Outcome Form). unlessRefused o t) is
 
 pub kept-full : (s : List ℕ) → kept (full s) ≡ converted s
 kept-full s = by-outcome (oldRead s) refl
   where
     by-outcome : (o : Outcome Form) → oldRead s ≡ o → kept (full s) ≡ converted s
-    by-outcome (accepted f) is = sym (kept-line (full s) (oldRead s) (sym (old-read s)) f is) ∙ sym (converted-full s f is)
+    by-outcome (accepted f) is = sym (kept-line (full s) (accepted f) (sym is ∙ sym (old-read s)) refl) ∙ sym (converted-full s f is)
     by-outcome (refused number field) is =
-        sym (kept-refusal (full s) (oldRead s) (sym (old-read s)) number field is) ∙ ap spelled is ∙ sym (converted-refused s number field is)
+        sym (kept-refusal (full s) (refused number field) (sym is ∙ sym (old-read s)) refl) ∙ sym (converted-refused s number field is)
 
 -- ---- the call: s′ are the first bytes
 module _ (s s′ : List ℕ) (start : s′ ≡ take longestInput s) (at : ℕ) (here : at ≡ gap s′) where

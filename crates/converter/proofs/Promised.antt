@@ -1,6 +1,6 @@
 -- All that is promised of the converter. Assumes nothing.
 use mathlib.Core.Path.{_≡_, ap, ap₂, _∙_, sym}
-use mathlib.Core.Bool.{true, false}
+use mathlib.Core.Bool.{true}
 use mathlib.Core.List.{List, [], _∷_, _++_}
 use Prim.Native.Nat.{ℕ, _-_, _≤_}
 use native.Mathlib.Omega.{arith}
@@ -17,7 +17,7 @@ use Rattle.forms.specs.Forms.{given, read}
 use Rattle.forms.proofs.Accepting.{form-number}
 use Rattle.text.specs.Text.{printed}
 use Rattle.converter.specs.Converter.{two, seventh, oldRead, line, converted}
-use Rattle.converter.specs.Laws.{Empty, Rewritten, Promised}
+use Rattle.converter.specs.Laws.{Empty, Rewritten, Refused, Promised}
 use Rattle.converter.proofs.Meaning.{empty-meant-2}
 use Rattle.converter.proofs.Lines.{line-fields, ends}
 use Rattle.converter.proofs.Old.{full-read, filled-same, old-ended, old-seven, meant-line, converted-full, converted-same, converted-refused, accepted-some}
@@ -67,11 +67,10 @@ module _ (s : List ℕ) (f : Form) (is : oldRead s ≡ accepted f) where
         digit = begins-with-digit (converted s) f accepts;
       }
 
-refuses : (s : List ℕ) (number field : ℕ) → oldRead s ≡ refused number field
-    → (converted s ≡ printed (oldRead s)) × (isDigit (getD (converted s) 0 0) ≡ false)
+refuses : (s : List ℕ) (number field : ℕ) → oldRead s ≡ refused number field → Refused s number field
 refuses s number field is =
     let said = converted-refused s number field is in
-    (said ∙ sym (ap printed is), ap (λ (t : List ℕ). isDigit (getD t 0 0)) said)
+    record { refusal = said; as-before = ap printed is; letter = ap (λ (t : List ℕ). getD t 0 0) said }
 
 pub promised : Promised
 promised =

@@ -10,13 +10,15 @@
 --                    with the same form, and prints on it what the old program printed on s; converted again it stays; where field seven was
 --                    filled it is the line s itself; where it was empty it is s with a 2 put in before its last byte, the LF; and it begins with a
 --                    digit, so that a script can tell a line from a refusal
---   Promised         what an empty field seven meant; the new rule; every line that the old program accepted is rewritten; of one that it refused, the
---                    converter prints what the old program printed, a refusal, which begins with no digit; a line that the order program
---                    accepts is untouched; the first 71 bytes decide the output; no output is longer than 45 bytes
+--   Refused s n p    what is printed for a line s that the old program refused with the number n at the field p: that refusal and nothing else, which
+--                    is what the old program printed; and it begins with the letter r
+--   Promised         what an empty field seven meant; the new rule; every line that the old program accepted is rewritten, and every other gives its
+--                    refusal; a line that the order program accepts is untouched; the first 71 bytes decide the output; no output is longer
+--                    than 45 bytes
 --
 -- Assumes nothing.
 use mathlib.Core.Path.{_≡_}
-use mathlib.Core.Bool.{true, false}
+use mathlib.Core.Bool.{true}
 use mathlib.Core.List.{List, [], _∷_, _++_}
 use Prim.Native.Nat.{ℕ, _-_, _≤_, _<_}
 use lib.ListN.{length, getD, take, drop}
@@ -24,6 +26,7 @@ use Rattle.paper.specs.Outcome.{accepted, refused}
 use Rattle.fields.specs.Fields.{semicolon, fields, isDigit}
 use Rattle.forms.specs.declared.Form.{Form}
 use Rattle.forms.specs.Forms.{given, read, longestInput}
+use Rattle.text.specs.Text.{refusalLine}
 use Rattle.orders.specs.Calls.{output}
 use Rattle.converter.specs.Converter.{two, oldRead, oldOutput, converted, longestLine}
 
@@ -48,12 +51,16 @@ pub record Rewritten (s : List ℕ) (f : Form) : Type 0 where
   pub empty : Empty s → converted s ≡ take (length s - 1) s ++ (two ∷ drop (length s - 1) s)
   pub digit : isDigit (getD (converted s) 0 0) ≡ true
 
+pub record Refused (s : List ℕ) (number field : ℕ) : Type 0 where
+  pub refusal : converted s ≡ refusalLine number field
+  pub as-before : oldOutput s ≡ refusalLine number field
+  pub letter : getD (converted s) 0 0 ≡ 114
+
 pub record Promised : Type 0 where
   pub empty-meant-2 : EmptyMeant2
   pub new-rule : NewRule
   pub rewrites : (s : List ℕ) (f : Form) → oldRead s ≡ accepted f → Rewritten s f
-  pub refuses : (s : List ℕ) (number field : ℕ) → oldRead s ≡ refused number field
-      → (converted s ≡ oldOutput s) × (isDigit (getD (converted s) 0 0) ≡ false)
+  pub refuses : (s : List ℕ) (number field : ℕ) → oldRead s ≡ refused number field → Refused s number field
   pub untouched : (s : List ℕ) (f : Form) → read s ≡ accepted f → converted s ≡ s
   pub first-bytes : (s : List ℕ) → converted (take longestInput s) ≡ converted s
   pub room : (s : List ℕ) → length (converted s) ≤ longestLine

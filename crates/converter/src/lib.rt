@@ -2,8 +2,11 @@
 // `specs/Calls.antt`.
 use forms::FormAnswer;
 use paper::NumberAnswer;
+ghost use mathlib.Core.Path.{_≡_};
+ghost use Rattle.forms.specs.Forms.{formOf};
 ghost use Rattle.text.specs.Text.{Prints};
 ghost use Rattle.converter.specs.Calls.{Converts};
+ghost use Rattle.converter.specs.Inner.{isOrder};
 ghost use Rattle.converter.specs.Inner.{kept as Inner·kept};
 
 mod fill;
@@ -13,6 +16,16 @@ pub const LONGEST_LINE: usize = 45;
 
 // The first bytes, which decide, and the 2.
 const ROOM: usize = 72;
+
+// Whether the order program accepts.
+fn is_order(asked: FormAnswer) -> bool
+    ensures { λ r. ⌜ r ≡ isOrder (formOf asked) ⌝ }
+{
+    match asked {
+        FormAnswer::Is(_) => true,
+        FormAnswer::Refused(_, _) => false,
+    }
+}
 
 // The line as it is, where it fits. Refused: 14, with the bytes needed.
 fn copied(line: &[u8], out: &mut [u8]) -> NumberAnswer
@@ -30,10 +43,10 @@ fn kept(line: &[u8], out: &mut [u8]) -> NumberAnswer
     ensures { λ r. ⌜ Prints (Inner·kept (now (line .entry))) r (now (out .entry)) (now (out .exit)) ⌝ }
 {
     let asked = forms::read(line);
-    match asked {
-        FormAnswer::Is(_) => copied(line, out),
-        FormAnswer::Refused(_, _) => text::answer(asked, out),
+    if is_order(asked) {
+        return copied(line, out);
     }
+    text::answer(asked, out)
 }
 
 // What the converter prints on the input, at the front of the lent buffer, and how many bytes that is. Refused: 14, with the bytes needed.

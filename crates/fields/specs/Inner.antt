@@ -3,10 +3,10 @@
 --   piece s            the first field of the bytes s: up to the next semicolon or LF
 --   next s e           where the field after the one that ended at e begins; past the end of s where there is none
 --   closes s e         the field that ended at e is followed by LF, and the LF by nothing
---   Reached s at n i   the bytes from `at` up to i are digits of the field that begins at `at`, and say n: so the field is as long as they and
---                      what is left of it, has another byte where that has one, and says what that says after n
+--   Reached s at n i   after the digits from `at` up to i, which say n: the field that begins at `at` is as long as they and what is left of it
+--                      at i, has another byte than digits where that has one, and says what that says after n
 --   Ran s at r         the run r is the digits from `at` on, up to the first other byte, but no more than nine
---   zeroFirst b many   the first of many digits is a zero, and not the only one
+--   zeroFirst b many   b, the first of `many` digits, is a zero, and not the only one
 --   numberedOf         the outcome that a Numbered stands for
 --   numberAt s at      the number in the field that begins at `at`, and where the field ends; refused 23 where it is none. Past the end of s
 --                      there is no byte, and so no number

@@ -13,6 +13,7 @@ pub fn answer(input: &[u8], out: &mut [u8]) -> NumberAnswer
     ensures { λ r. ⌜ Answered r (now (input .entry)) (now (out .entry)) (now (out .exit)) ⌝ }
 {
     let asked = forms::read(input);
+    // With room for every output, it is printed once.
     if out.len() < LONGEST_OUTPUT {
         return text::answer(asked, out);
     }

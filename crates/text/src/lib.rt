@@ -32,7 +32,7 @@ fn fitting(n: usize, room: usize) -> usize
     room
 }
 
-// Some bytes, from `at` on.
+// Some bytes, from `at` on; those past the end are left out.
 pub fn lay(out: &mut [u8], at: usize, text: &[u8])
     ensures { λ _. ⌜ now (out .exit) ≡ sets (now (out .entry)) at (now (text .entry)) ⌝ }
 {

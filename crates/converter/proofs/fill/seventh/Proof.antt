@@ -8,8 +8,6 @@ use borrow.Author.Needs.{needs}
 use Rattle.converter.proofs.Seats.{Seat, seat-start, seat-here, seat-past, seat-over, seat-field, seat-on}
 use Rattle.converter.proofs.fill.seventh.Statement.{statement}
 use Rattle.converter.proofs.fill.seventh.Tie as tie
-use Rattle.converter.proofs.fill.seventh.Reads as reads
-use Rattle.converter.proofs.fill.seventh.Lts as lts
 
 abbrev Inv-loop : tie.InvT-loop
 Inv-loop input left₀ i₀ left i = Seat input left i
@@ -17,52 +15,41 @@ Inv-loop input left₀ i₀ left i = Seat input left i
 abbrev μ-loop : tie.MeasureT-loop
 μ-loop input left₀ i₀ left i = length input - i
 
--- src/fill.rt:29:5
 loop-holds : tie.Need-loop-holds Inv-loop μ-loop
 loop-holds c = seat-start (c .args .input .now)
 
--- src/fill.rt:31:20
 add-result : tie.Need-add-result Inv-loop μ-loop
 add-result c = search needs
 
--- src/fill.rt:31:13
 returns : tie.Need-returns Inv-loop μ-loop
 returns c =
     let at-loop-test = c .before in
     seat-past (at-loop-test .before .loop .inv) (at-loop-test .loop-test .taken) (c .if1 .taken)
 
--- src/fill.rt:33:12
 shared-slice-read-if2 : tie.Need-shared-slice-read-if2 Inv-loop μ-loop
 shared-slice-read-if2 c = omega arith
 
--- src/fill.rt:34:20
 add-result-2 : tie.Need-add-result-2 Inv-loop μ-loop
 add-result-2 c = search needs
 
--- src/fill.rt:34:13
 returns-2 : tie.Need-returns-2 Inv-loop μ-loop
 returns-2 c =
     let at-if1 = c .before .before in
     let at-loop-test = at-if1 .before in
     seat-over (at-loop-test .before .loop .inv) (at-loop-test .loop-test .taken) (at-if1 .if1 .left) (c .if2 .taken)
 
--- src/fill.rt:36:12
 shared-slice-read-if3 : tie.Need-shared-slice-read-if3 Inv-loop μ-loop
 shared-slice-read-if3 c = omega arith
 
--- src/fill.rt:37:13
 sub-left : tie.Need-sub-left Inv-loop μ-loop
 sub-left c = omega arith
 
--- src/fill.rt:39:9
 add-i : tie.Need-add-i Inv-loop μ-loop
 add-i c = omega arith
 
--- src/fill.rt:29:5
 loop-less : tie.Need-loop-less Inv-loop μ-loop
 loop-less c = omega arith
 
--- src/fill.rt:29:5
 loop-again : tie.Need-loop-again Inv-loop μ-loop
 loop-again c =
     let at-if2 = c .before .before in
@@ -76,7 +63,6 @@ loop-again c =
     (λ w. subst⁻¹ (λ (k : ℕ). Seat s k (l .i + 1)) (w .1) (seat-on seat (at-loop-test .loop-test .taken) (at-if1 .if1 .left) (at-if2 .if2 .left) (w .0 .left)))
     (c .if3 .came)
 
--- src/fill.rt:24:1
 returns-3 : tie.Need-returns-3 Inv-loop μ-loop
 returns-3 c = seat-here (c .before .loop .inv) (c .loop-test .left)
 
