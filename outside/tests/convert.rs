@@ -4,11 +4,6 @@
 mod common;
 
 use std::collections::BTreeMap;
-use std::ffi::OsString;
-use std::fs;
-use std::os::unix::fs::symlink;
-use std::path::{Path, PathBuf};
-use std::process::Command;
 
 use common::orders::{agree, answer, converted, decide, ordered, printed, sample, Decision, CONVERT, NEW, OLD, ORDER};
 use common::random::Random;
@@ -203,88 +198,4 @@ fn a_converted_line_from_program_to_program() {
     assert_eq!(printed("convert", &line), line);
     let text = printed("order", &line);
     assert_eq!(text, b"order 1042 site 7 model 3 roots 1 level 2 leaves 64 shares 3\n0 0 21\n1 21 21\n2 42 22\n");
-}
-
-/// A folder of stored orders, one line a file.
-const STORED: [(&str, &[u8]); 11] = [
-    ("filled", b"1042;7;3;1;4;3;1\n"),
-    ("empty", b"1043;7;3;1;4;3;\n"),
-    ("-dash", b"1044;7;3;4096;21;4096;\n"),
-    ("new\nline", b"1045;7;3;2;9;5;\n"),
-    ("above", b"1046;7;3;1;1;3;\n"),
-    ("no line end", b"1047;7;3;1;4;3;"),
-    ("carriage return", b"1048;7;3;1;4;3;\r\n"),
-    ("two lines", b"1049;7;3;1;4;3;\n1050;7;3;1;4;3;\n"),
-    ("nothing", b""),
-    ("nul", b"1;2\x003;4\n"),
-    ("long", &[b'1'; 100_000]),
-];
-
-/// The shell line of README.md, to be run in a folder with a new folder `stored` of these orders.
-fn shell_line(office: &Path, stored: &[(&str, &[u8])]) -> Command {
-    let root = PathBuf::from(env!("CARGO_MANIFEST_DIR")).join("..").canonicalize().expect("the repository");
-    let readme = fs::read_to_string(root.join("README.md")).expect("README.md");
-    let line = readme.lines().find(|line| line.contains("mkdir converted refused reasons")).expect("the line");
-    let _ = fs::remove_dir_all(office);
-    fs::create_dir_all(office.join("stored")).expect("a folder");
-    symlink(root.join("target"), office.join("target")).expect("a link to the programs");
-    for (name, bytes) in stored {
-        fs::write(office.join("stored").join(name), bytes).expect("a stored order");
-    }
-    let mut command = Command::new("sh");
-    command.args(["-c", line]).current_dir(office);
-    command
-}
-
-/// The names in a folder, in their order.
-fn names(folder: PathBuf) -> Vec<OsString> {
-    let mut names: Vec<_> =
-        fs::read_dir(folder).expect("a folder").map(|file| file.expect("a file").file_name()).collect();
-    names.sort();
-    names
-}
-
-/// As a new user would run it: nothing is lost, and what was refused is kept apart with its refusal; the second run changes nothing.
-#[test]
-fn the_line_of_the_readme() {
-    let office = PathBuf::from(env!("CARGO_TARGET_TMPDIR")).join("office");
-    let mut line = shell_line(&office, &STORED);
-    for ends_well in [true, false] {
-        assert_eq!(line.output().expect("a shell").status.success(), ends_well);
-        for (name, bytes) in STORED {
-            let kept = ["stored", "converted", "refused", "reasons"]
-                .map(|folder| fs::read(office.join(folder).join(name)).ok());
-            let [given, output] = [Some(bytes.to_vec()), Some(converted(bytes))];
-            let order = decide(bytes, OLD).is_ok();
-            let due = if order { [given, output, None, None] } else { [given.clone(), None, given, output] };
-            assert_eq!(kept, due, "{name:?}");
-        }
-        let [all, orders, refused, reasons] =
-            ["stored", "converted", "refused", "reasons"].map(|folder| names(office.join(folder)));
-        assert_eq!((all.len(), orders.len() + refused.len()), (STORED.len(), STORED.len()));
-        assert_eq!(refused, reasons);
-    }
-}
-
-/// What can't be read or written stops it, and it says so: a folder, nothing at all, a name taken by a folder, no program.
-#[test]
-fn the_line_of_the_readme_stops() {
-    let office = PathBuf::from(env!("CARGO_TARGET_TMPDIR")).join("stopped");
-    let stopped = |mut line: Command| {
-        let output = line.output().expect("a shell");
-        assert!(!output.status.success() && !output.stderr.is_empty());
-    };
-    stopped(shell_line(&office, &[]));
-    let line = shell_line(&office, &STORED);
-    fs::create_dir(office.join("stored/folder")).expect("a folder");
-    stopped(line);
-    let line = shell_line(&office, &STORED);
-    fs::create_dir(office.join("reasons")).expect("a folder");
-    stopped(line);
-    let line = shell_line(&office, &STORED);
-    fs::remove_file(office.join("target")).expect("a link");
-    stopped(line);
-    for (name, bytes) in STORED {
-        assert_eq!(fs::read(office.join("stored").join(name)).ok().as_deref(), Some(bytes));
-    }
 }

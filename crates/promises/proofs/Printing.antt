@@ -6,7 +6,7 @@ use native.Mathlib.Nat.{le-trans}
 use lib.Dec.{ltb}
 use lib.ListN.{length, take, drop}
 use lib.Seq.{drop-append-seam}
-use borrow.Author.Tests.{le-ltb}
+use borrow.Author.Tests.{le-ltb, ltb-false}
 use Rattle.paper.specs.Outcome.{accepted}
 use Rattle.paper.specs.Memory.{written, Fulfils}
 use Rattle.paper.specs.Readings.{valueOf}
@@ -28,14 +28,11 @@ use Rattle.promises.specs.Printing.{Holds, Printed, OfOrders, OfStored}
 use Rattle.promises.proofs.Flat.{returned, front-bytes, count-value}
 use Rattle.promises.proofs.OverC.{over-c}
 
--- what is printed, where it has room, is the bytes
-all-of : (t : List ℕ) (room : ℕ) (bs : List ℕ) → printing t room ≡ accepted bs → bs ≡ t
-all-of t room bs is = sym (accepted-same t bs (accepted-of (ltb room (length t)) 14 (length t) (accepted t) bs is .1))
-
-holds : (t m m′ : List ℕ) (N : ℕ) → m′ ≡ written t m → length t ≡ N → Holds t N m m′
-holds t m m′ N is long =
+holds : (t m m′ : List ℕ) (N : ℕ) → length t ≤ length m → m′ ≡ written t m → length t ≡ N → Holds t N m m′
+holds t m m′ N fits is long =
     record {
       many = sym long;
+      room = subst (λ (n : ℕ). n ≤ length m) long fits;
       front = front-bytes t m m′ N is long;
       behind = subst (λ (n : ℕ). drop n m′ ≡ drop n m) long (ap (drop (length t)) is ∙ drop-append-seam t (drop (length t) m));
     }
@@ -46,7 +43,10 @@ Returned t r m m′ = Fulfils (λ (r : NumberResult). r) countOf written (printi
 
 module _ (t m m′ : List ℕ) where
   of-bytes : (bs : List ℕ) (N : ℕ) → printing t (length m) ≡ accepted bs → m′ ≡ written bs m → length bs ≡ N → Holds t N m m′
-  of-bytes bs N is kept long = subst (λ (u : List ℕ). Holds u N m m′) (all-of t (length m) bs is) (holds bs m m′ N kept long)
+  of-bytes bs N is kept long =
+      let a = accepted-of (ltb (length m) (length t)) 14 (length t) (accepted t) bs is in
+      let same : bs ≡ t = sym (accepted-same t bs (a .1)) in
+      holds t m m′ N (ltb-false (length m) (length t) (a .0)) (kept ∙ ap (λ (u : List ℕ). written u m) same) (ap length (sym same) ∙ long)
 
   front : (N : ℕ) (r : NumberAnswer) → Prints t r m m′ → valueOf r ≡ accepted N → Holds t N m m′
   front N r f e =

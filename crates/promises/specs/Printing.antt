@@ -1,6 +1,6 @@
 -- Demand 2, of orders: what the calls that print leave in the buffers that they were lent. Definitions only.
 --
---   Holds t N m m′     the buffer m′ holds the N bytes t at its front, and behind them what the buffer m held there
+--   Holds t N m m′     a call that found the buffer m, with room for N bytes, left m′: the N bytes t at its front, and behind them what m held there
 --   Printed shown most C D
 --                      a call with the contract C, and its function over C with the contract D: where it answers N on an input, its buffer holds the N
 --                      bytes shown for that input; and in a buffer of `most` bytes or more it answers
@@ -28,6 +28,7 @@ use Rattle.interface.specs.Calls.{OrderResult, ConvertResult}
 
 pub record Holds (t : List ℕ) (N : ℕ) (m m′ : List ℕ) : Type 0 where
   pub many : N ≡ length t
+  pub room : N ≤ length m
   pub front : take N m′ ≡ t
   pub behind : drop N m′ ≡ drop N m
 
