@@ -1,12 +1,13 @@
 -- The line at the front of a buffer, with its gap filled, and what is printed for a line without a gap. Assumes nothing.
 use mathlib.Core.Path.{_≡_, refl, ap, ap₂, _∙_, sym, subst, subst⁻¹}
-use mathlib.Core.Bool.{true, false, true≢false, false≢true}
+use mathlib.Core.Bool.{Bool, true, false, true≢false, false≢true}
 use mathlib.Core.List.{List, [], _∷_, _++_}
-use Prim.Native.Nat.{ℕ, _+_, _-_, _≤_, _<_}
+use Prim.Native.Nat.{ℕ, _+_, _-_, _≤_, _<_, min}
 use native.Mathlib.Omega.{arith}
+use lib.Dec.{leb}
 use lib.ListN.{length, take, drop, length-take, length-drop, length-append}
 use lib.Seq.{sets, length-take-le, take-all, take-append-seam}
-use borrow.Author.Tests.{lt-ltb, le-ltb}
+use borrow.Author.Tests.{lt-ltb, le-ltb, leb-true, leb-false}
 use Rattle.paper.specs.Outcome.{Outcome, accepted, refused}
 use Rattle.paper.specs.declared.NumberAnswer.{NumberAnswer}
 use Rattle.paper.proofs.Front.{sets-append}
@@ -70,6 +71,15 @@ kept-full s = by-outcome (oldRead s) refl
         sym (kept-refusal (full s) (refused number field) (sym is ∙ sym (old-read s)) refl) ∙ sym (converted-refused s number field is)
 
 -- ---- the call: s′ are the first bytes
+pub first-bytes : (s : List ℕ) (n : ℕ) → n ≡ min (length s) longestInput → take n s ≡ take longestInput s
+first-bytes s n is = by-length (leb (length s) longestInput) refl
+  where
+    by-length : (t : Bool) → leb (length s) longestInput ≡ t → take n s ≡ take longestInput s
+    by-length true e =
+        let short = leb-true (length s) longestInput e in
+        take-all n s (omega (arith, is)) ∙ sym (take-all longestInput s short)
+    by-length false e = let long = leb-false (length s) longestInput e in let all : n ≡ longestInput = omega (arith, is) in ap (λ (k : ℕ). take k s) all
+
 module _ (s s′ : List ℕ) (start : s′ ≡ take longestInput s) (at : ℕ) (here : at ≡ gap s′) where
   same : kept (filled s′ at) ≡ converted s
   same = ap (λ (g : ℕ). kept (filled s′ g)) here ∙ kept-full s′ ∙ ap converted start ∙ converted-first s

@@ -1,24 +1,10 @@
 // The line with a 2 put in where field seven is empty.
 use fields::cut;
-use orders::LONGEST_INPUT;
 ghost use mathlib.Core.Path.{_≡_};
 ghost use Prim.Native.Nat.{_≤_, _<_};
-ghost use lib.ListN.{length, take};
-ghost use Rattle.forms.specs.Forms.{longestInput};
+ghost use lib.ListN.{length};
 ghost use Rattle.converter.specs.Inner.{begins, Front, filled};
 ghost use Rattle.converter.specs.Inner.{gap as Inner·gap};
-
-// How many bytes are looked at: the first bytes of the input decide.
-pub(crate) fn deciding(input: &[u8]) -> usize
-    ensures { λ r. ⌜ r ≤ length (now (input .entry)) ⌝ }
-    ensures { λ r. ⌜ r ≤ longestInput ⌝ }
-    ensures { λ r. ⌜ take r (now (input .entry)) ≡ take longestInput (now (input .entry)) ⌝ }
-{
-    if input.len() < LONGEST_INPUT {
-        return input.len();
-    }
-    LONGEST_INPUT
-}
 
 // Where field seven begins: after six semicolons; past the input where the line has not so many.
 fn seventh(input: &[u8]) -> usize

@@ -1,6 +1,7 @@
 // The converter for stored order lines: one call from the bytes of a line to the bytes that it prints. The contract is the call of
 // `specs/Calls.antt`.
 use forms::FormAnswer;
+use orders::LONGEST_INPUT;
 use paper::NumberAnswer;
 ghost use mathlib.Core.Path.{_≡_};
 ghost use Rattle.forms.specs.Forms.{formOf};
@@ -53,7 +54,8 @@ fn kept(line: &[u8], out: &mut [u8]) -> NumberAnswer
 pub fn convert(input: &[u8], out: &mut [u8]) -> NumberAnswer
     ensures { λ r. ⌜ Converts r (now (input .entry)) (now (out .entry)) (now (out .exit)) ⌝ }
 {
-    let n = fill::deciding(input);
+    // The first bytes decide.
+    let n = text::fitting(input.len(), LONGEST_INPUT);
     let at = fill::gap(&input[..n]);
     if n < at {
         return kept(&input[..n], out);

@@ -22,8 +22,8 @@ fn put(out: &mut [u8], at: usize, b: u8)
     }
 }
 
-// How many of so many bytes fit.
-fn fitting(n: usize, room: usize) -> usize
+// How many of n bytes there is room for.
+pub fn fitting(n: usize, room: usize) -> usize
     ensures { λ r. ⌜ r ≡ min n room ⌝ }
 {
     if n < room {

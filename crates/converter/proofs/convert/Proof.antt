@@ -2,26 +2,26 @@
 use mathlib.Core.Path.{sym}
 use native.Mathlib.Omega.{arith}
 use lib.Seq.{length-take-le}
-use Rattle.converter.proofs.Fronts.{front-within, converts-as-is, converts-filled}
+use Rattle.converter.proofs.Fronts.{front-within, first-bytes, converts-as-is, converts-filled}
 use borrow.Author.Needs.{needs}
 use Rattle.converter.proofs.convert.Statement.{statement}
 use Rattle.converter.proofs.convert.Tie as tie
 
-deciding-requires : tie.Need-deciding-requires
-deciding-requires c κs = search needs
+fitting-requires : tie.Need-fitting-requires
+fitting-requires c κs = search needs
 
 slice-aggregate-gap : tie.Need-slice-aggregate-gap
 slice-aggregate-gap c =
-    let at-deciding = c .before in
-    sym (length-take-le (at-deciding .deciding .result) (at-deciding .before .before .before .args .input .now) (at-deciding .deciding .ensures .0))
+    let at-fitting = c .before in
+    sym (length-take-le (at-fitting .fitting .result) (at-fitting .before .before .before .args .input .now) (omega (arith, at-fitting .fitting .ensures)))
 
 gap-requires : tie.Need-gap-requires
 gap-requires c κs = search needs
 
 slice-aggregate-kept : tie.Need-slice-aggregate-kept
 slice-aggregate-kept c =
-    let at-deciding = c .before .before .before .before in
-    sym (length-take-le (at-deciding .deciding .result) (at-deciding .before .before .before .args .input .now) (at-deciding .deciding .ensures .0))
+    let at-fitting = c .before .before .before .before in
+    sym (length-take-le (at-fitting .fitting .result) (at-fitting .before .before .before .args .input .now) (omega (arith, at-fitting .fitting .ensures)))
 
 kept-requires : tie.Need-kept-requires
 kept-requires c κs = search needs
@@ -34,16 +34,16 @@ returns c =
     let at-kept = c .before .before in
     let at-if1 = at-kept .before .before .before in
     let at-gap = at-if1 .before in
-    let at-deciding = at-gap .before .before in
-    let a = at-deciding .before .before .before .args in
-    let long = length-take-le (at-deciding .deciding .result) (a .input .now) (at-deciding .deciding .ensures .0) in
-    converts-as-is (a .input .now) _ (at-deciding .deciding .ensures .1 .1) (at-gap .gap .result) (at-gap .gap .ensures) _ (a .out .now) _
+    let at-fitting = at-gap .before .before in
+    let a = at-fitting .before .before .before .args in
+    let long = length-take-le (at-fitting .fitting .result) (a .input .now) (omega (arith, at-fitting .fitting .ensures)) in
+    converts-as-is (a .input .now) _ (first-bytes (a .input .now) (at-fitting .fitting .result) (at-fitting .fitting .ensures)) (at-gap .gap .result) (at-gap .gap .ensures) _ (a .out .now) _
     (omega (arith, at-if1 .if1 .taken, long)) (at-kept .kept .ensures)
 
 slice-aggregate-fill : tie.Need-slice-aggregate-fill
 slice-aggregate-fill c =
-    let at-deciding = c .before .before .before .before in
-    sym (length-take-le (at-deciding .deciding .result) (at-deciding .before .before .before .args .input .now) (at-deciding .deciding .ensures .0))
+    let at-fitting = c .before .before .before .before in
+    sym (length-take-le (at-fitting .fitting .result) (at-fitting .before .before .before .args .input .now) (omega (arith, at-fitting .fitting .ensures)))
 
 slice-aggregate-fill-2 : tie.Need-slice-aggregate-fill-2
 slice-aggregate-fill-2 c = search needs
@@ -51,9 +51,9 @@ slice-aggregate-fill-2 c = search needs
 fill-requires : tie.Need-fill-requires
 fill-requires c κs =
     let at-if1 = c .before .before in
-    let at-deciding = at-if1 .before .before .before in
-    let long = length-take-le (at-deciding .deciding .result) (at-deciding .before .before .before .args .input .now) (at-deciding .deciding .ensures .0) in
-    (omega (arith, at-if1 .if1 .left, long), omega (arith, at-deciding .deciding .ensures .1 .0, long))
+    let at-fitting = at-if1 .before .before .before in
+    let long = length-take-le (at-fitting .fitting .result) (at-fitting .before .before .before .args .input .now) (omega (arith, at-fitting .fitting .ensures)) in
+    (omega (arith, at-if1 .if1 .left, long), omega (arith, at-fitting .fitting .ensures, long))
 
 array-share-prefix-line : tie.Need-array-share-prefix-line
 array-share-prefix-line c = front-within (c .before .fill .ensures)
@@ -74,16 +74,16 @@ returns-2 c =
     let at-kept = c .before .before in
     let at-fill = at-kept .before .before .before .before in
     let at-gap = at-fill .before .before .before .before in
-    let at-deciding = at-gap .before .before in
-    let a = at-deciding .before .before .before .args in
-    converts-filled (a .input .now) _ (at-deciding .deciding .ensures .1 .1) (at-gap .gap .result) (at-gap .gap .ensures) _ (a .out .now) _
+    let at-fitting = at-gap .before .before in
+    let a = at-fitting .before .before .before .args in
+    converts-filled (a .input .now) _ (first-bytes (a .input .now) (at-fitting .fitting .result) (at-fitting .fitting .ensures)) (at-gap .gap .result) (at-gap .gap .ensures) _ (a .out .now) _
     (at-fill .fill .ensures) (at-kept .kept2 .ensures)
 
 pub convert-spec : {M : Type 1} → statement M
 convert-spec =
     tie.close
     (tie.spec
-    deciding-requires
+    fitting-requires
     slice-aggregate-gap
     gap-requires
     slice-aggregate-kept
