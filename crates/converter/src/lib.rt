@@ -24,7 +24,7 @@ fn is_order(asked: FormAnswer) -> bool
 {
     match asked {
         FormAnswer::Is(_) => true,
-        FormAnswer::Refused(_, _) => false,
+        FormAnswer::Refused(_, _field) => false,
     }
 }
 

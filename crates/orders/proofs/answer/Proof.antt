@@ -1,4 +1,5 @@
 -- `answer` meets its contract: what was read is printed, where its length fits. Assumes nothing.
+use native.Mathlib.Omega.{arith}
 use borrow.Author.Needs.{needs}
 use Rattle.forms.specs.Forms.{formOf}
 use Rattle.orders.proofs.Answering.{answered, answered-all}
@@ -33,7 +34,7 @@ returns-2 c =
     let at-if1 = at-print .before .before in
     let at-read = at-if1 .before in
     let a = at-read .before .before .before .args in
-    answered-all (a .input .now) (a .out .now) (formOf (at-read .read .result)) (at-read .read .ensures) _ _ (at-if1 .if1 .left) (at-print .print .ensures)
+    answered-all (a .input .now) (a .out .now) (formOf (at-read .read .result)) (at-read .read .ensures) _ _ (omega (arith, at-if1 .if1 .left)) (at-print .print .ensures)
 
 pub answer-spec : {M : Type 1} → statement M
 answer-spec =
