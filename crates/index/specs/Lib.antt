@@ -1,3 +1,4 @@
 pub mod Index
 pub mod Rank
 pub mod Bey
+pub mod Pencil

@@ -16,6 +16,7 @@ use Rattle.tree.proofs.Descendants.{descendants}
 use Rattle.tree.proofs.Ordering.{total-order}
 use Rattle.tree.proofs.CurveOrder.{curve-order}
 use Rattle.tree.proofs.Family.{families}
+use Rattle.rows.proofs.Siblings.{by-rule}
 use Rattle.line.specs.Elements.{line}
 use Rattle.line.proofs.Faces.{line-faces}
 use Rattle.triangle.specs.Elements.{triangle}
@@ -26,6 +27,7 @@ use Rattle.index.specs.Index.{lineIndex, triangleIndex, prismIndex}
 use Rattle.index.specs.Rank.{Ranked}
 use Rattle.index.proofs.Rank.{line-ranked, triangle-ranked, prism-ranked}
 use Rattle.index.proofs.Bey.{bey}
+use Rattle.index.proofs.Pencil.{pencil, worked}
 use Rattle.leaves.proofs.Ancestors.{cell-laws}
 use Rattle.adaption.proofs.Elements.{relatives}
 use Rattle.corners.specs.declared.Root.{Root}
@@ -89,6 +91,9 @@ of-elements =
           elements prism (prismIndex 21) prismFigure
           (prisms.lawful 21) (prism-ranked 21) (prism-constants.constants 21) (prism-faces 21);
       children-are-bey's = bey 21;
+      numbers-by-rule = by-rule;
+      by-pencil = pencil 21;
+      pencil-example = worked;
       refusal-4-of-triangles = triangle-inside.refusal-4 21;
       refusal-4-of-prisms = prism-inside.refusal-4 21;
     }

@@ -7,7 +7,8 @@
 --                 (lineFigure, triangleFigure, prismFigure: of the three)
 --   HandedBack    what a call can refuse a sound element by: none of the checks on an element
 --   Elements      what is promised of one shape, with its index and its corner points
---   OfElements    of the elements of all three shapes
+--   OfElements    of the elements of all three shapes; a triangle's number among its siblings by document 02's rule, and a prism's position
+--                 worked out by it with a pencil (docs/PENCIL.md)
 --   OfLists       of leaf lists and their calls: when each call accepts, and with what (`Accepts.antt`); each smallest cell lies in exactly one leaf, and the
 --                 leaves stand along the curve; a leaf's relatives are the prism's; adaption is the paper's one pass, boundaries are the paper's
 --   OfFiles       of grid files: "a list has one file and a file one list", and writing and reading undo each other
@@ -34,6 +35,7 @@ use Rattle.tree.specs.Laws.{Sound, Lawful, Positions, TotalOrder, Families, Fac
 use Rattle.tree.specs.Ancestors.{Ancestors}
 use Rattle.tree.specs.Descendants.{Descendants, CurveOrder}
 use Rattle.tree.specs.CallLaws.{Accepts, ByPosition, SoundAnswers}
+use Rattle.rows.specs.Siblings.{ByRule}
 use Rattle.line.specs.declared.Line.{Line}
 use Rattle.line.specs.Elements.{line}
 use Rattle.triangle.specs.declared.Triangle.{Triangle}
@@ -45,6 +47,7 @@ use Rattle.prism.specs.Points.{Corner}
 use Rattle.index.specs.Bey.{Bey}
 use Rattle.index.specs.Index.{lineIndex, triangleIndex, prismIndex}
 use Rattle.index.specs.Rank.{Ranked}
+use Rattle.index.specs.Pencil.{Pencil, Worked}
 use Rattle.leaves.specs.Leaves.{CHILDREN}
 use Rattle.leaves.specs.Cells.{CellLaws}
 use Rattle.adaption.specs.Laws.{Relatives}
@@ -138,6 +141,9 @@ pub record OfElements : Type 0 where
   pub of-triangles : Elements triangle (triangleIndex HIGHEST) triangleFigure
   pub of-prisms : Elements prism (prismIndex HIGHEST) prismFigure
   pub children-are-bey's : Bey HIGHEST
+  pub numbers-by-rule : ByRule
+  pub by-pencil : Pencil HIGHEST
+  pub pencil-example : Worked
   pub refusal-4-of-triangles : triangle-points.Refusal4 HIGHEST
   pub refusal-4-of-prisms : prism-points.Refusal4 HIGHEST
 

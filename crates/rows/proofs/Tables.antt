@@ -1,4 +1,5 @@
--- The two rows of four hold each of the eight steps exactly once, and keep a triangle inside its parent: eight entries, computed.
+-- The two rows of four hold each of the eight steps exactly once, at the number that document 02's rule works out, and keep a triangle inside its
+-- parent: eight entries, computed.
 -- Assumes nothing.
 use mathlib.Core.Path.{_≡_, refl}
 use Prim.Native.Nat.{ℕ, _+_, _*_, _%_, _≤_, _<_}
@@ -51,7 +52,7 @@ unfolding parentKind
 parentKind-child = each-child (λ (t i : ℕ). parentKind (childRow t i) ≡ t) refl refl refl refl refl refl refl refl
 
 pub numberOf-child : (t i : ℕ) → t < 2 → i < 4 → numberOf (childRow t i) ≡ i
-unfolding numberOf parentKind
+unfolding numberOf
 numberOf-child = each-child (λ (t i : ℕ). numberOf (childRow t i) ≡ i) refl refl refl refl refl refl refl refl
 
 -- ---- up and down again
@@ -66,7 +67,7 @@ parentKind-lt =
     each-step (λ (x y t : ℕ). parentKind (step x y t) < 2) (omega arith) (omega arith) (omega arith) (omega arith) (omega arith) (omega arith) (omega arith) (omega arith)
 
 pub numberOf-lt : (x y t : ℕ) → x < 2 → y < 2 → t < 2 → numberOf (step x y t) < 4
-unfolding numberOf parentKind
+unfolding numberOf
 numberOf-lt =
     each-step (λ (x y t : ℕ). numberOf (step x y t) < 4) (omega arith) (omega arith) (omega arith) (omega arith) (omega arith) (omega arith) (omega arith) (omega arith)
 

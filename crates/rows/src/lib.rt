@@ -1,5 +1,5 @@
-// Document 01's tables, read by type and child or face. Types and numbers beyond a table are taken modulo their count, so that each
-// function answers for every input.
+// Document 01's tables, read by type and child or face, and document 02's rule for the way up, which reads none. Types and numbers beyond a
+// table are taken modulo their count, so that each function answers for every input.
 ghost use mathlib.Core.Path.{_≡_};
 ghost use Prim.Native.Nat.{_%_};
 ghost use Rattle.rows.specs.Rows.{step, childRow, slotOf, faceRow, prismFaceRow};
@@ -11,7 +11,7 @@ pub struct Step {
     pub kind: u8,
 }
 
-// Where a step stands in the child rows: its parent's type and its number.
+// What is worked out from a triangle's bits and its type: its parent's type, and its number among its siblings.
 pub struct Slot {
     pub kind: u8,
     pub number: u8,
@@ -29,13 +29,6 @@ pub struct PrismStep {
 const CHILD: [[u8; 4]; 2] = [
     [0b0_0_0, 0b1_0_0, 0b1_0_1, 0b1_1_0],
     [0b0_0_1, 0b0_1_0, 0b0_1_1, 0b1_1_1],
-];
-
-// The same rows the other way round: a row for each type of the child, its entries by x step and y step, 0 0, 0 1, 1 0, 1 1. An entry's
-// digits: the parent's type, the number.
-const SLOT: [[u8; 4]; 2] = [
-    [0b0_00, 0b1_01, 0b0_01, 0b0_11],
-    [0b1_00, 0b1_10, 0b0_10, 0b1_11],
 ];
 
 // Face neighbours, a row for each type. An entry's digits: x step, y step, type; of a step 00 is -h, 01 is 0, 10 is +h.
@@ -75,15 +68,23 @@ pub fn child_row(kind: u8, number: u8) -> Step
     }
 }
 
+// By the last bits of x and y, which are the anchor's at the triangle's level. One test, not one for each of the rule's three cases: the compiler
+// makes selections of it, where it would make branches, which are guessed wrong (docs/SPEED.md).
 pub fn slot_of(x: u32, y: u32, kind: u8) -> Slot
     ensures { λ r. ⌜ r ≡ slotOf (step (x % 2) (y % 2) (kind % 2)) ⌝ }
 {
-    let t = kind as usize % 2;
-    let i = (2 * (x % 2) + y % 2) as usize;
-    let v = SLOT[t][i];
+    let x_bit = (x % 2) as u8;
+    let y_bit = (y % 2) as u8;
+    let t = kind % 2;
+    if x_bit == y_bit {
+        // 0 when neither is set, 3 when both are
+        let number = 3 * x_bit;
+        return Slot { kind: t, number };
+    }
+    let number = 1 + t;
     Slot {
-        kind: v / 4,
-        number: v % 4,
+        kind: y_bit,
+        number,
     }
 }
 
