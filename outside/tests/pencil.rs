@@ -8,10 +8,14 @@ use gwerniloc::{Prism, Triangle, HIGHEST_LEVEL};
 
 const PAGE: &str = include_str!("../../docs/PENCIL.md");
 
-const NUMBER: &str = "the triangle's number is 0 when neither the digit of x nor that of y is set, 3 when both are, and otherwise 1 plus the type;";
+const NUMBER: &str = "the triangle's number is 0 when neither the digit of x nor that of y is set, 3 when both are, \
+    and otherwise 1 plus the type;";
 const PRISM_NUMBER: &str = "the prism's number is that, and 4 more when the digit of z is set;";
-const ABOVE: &str = "the type above, with which the next row begins, is the same type when the digits of x and y agree, and otherwise the digit of y.";
-const HEAD: &str = "| Level | Digit of x | Digit of y | Digit of z | Type | Triangle's number | Prism's number | Type above |";
+const ABOVE: &str =
+    "the type above, with which the next row begins, is the same type when the digits of x and y agree, \
+    and otherwise the digit of y.";
+const HEAD: &str =
+    "| Level | Digit of x | Digit of y | Digit of z | Type | Triangle's number | Prism's number | Type above |";
 
 /// A row: level, digits of x, y and z, type, triangle's number, prism's number, type above.
 type Row = [u8; 8];
@@ -132,7 +136,11 @@ fn the_type_above_level_1_tells() {
 /// The numbers in a piece of text, in order; commas may part their digits by threes.
 fn numbers(text: &str) -> Vec<u64> {
     let apart = text.replace(", ", " ").replace(',', "");
-    apart.split(|c: char| !c.is_ascii_digit()).filter(|part| !part.is_empty()).map(|part| part.parse().expect("digits")).collect()
+    apart
+        .split(|c: char| !c.is_ascii_digit())
+        .filter(|part| !part.is_empty())
+        .map(|part| part.parse().expect("digits"))
+        .collect()
 }
 
 /// What a cell of the table says: a number, or a sum, which must be right.

@@ -42,18 +42,21 @@ fn step(e: Prism, kind: usize, shift: u8) -> super::Up {
     super::Up { number: ((e.z >> shift & 1) << 2) as u8 | up.number, kind: up.kind }
 }
 
-/// The position of a valid prism.
+/// The position of a valid prism, in sides of its level: a number is by the last bits of x and y, and so is the parent's type.
 #[inline(always)]
 fn rank(e: Prism) -> u64 {
+    let shift = HIGHEST - e.level;
+    let (mut x, mut y, mut z) = (e.x >> shift, e.y >> shift, e.z >> shift);
     let mut position = 0;
-    // A whole word from the start, so that the loop need not widen it at each turn.
-    let mut kind = usize::from(e.kind == 1);
-    let mut digit = 0;
-    for shift in HIGHEST - e.level..HIGHEST {
-        let up = step(e, kind, shift);
-        position |= (up.number as u64) << digit;
-        kind = up.kind as usize;
-        digit += 3;
+    let mut kind = e.kind as u32;
+    for i in 0..e.level {
+        let agree = (x ^ y) & 1 == 0;
+        let number = if agree { 3 * (x & 1) } else { 1 + kind };
+        kind = if agree { kind } else { y & 1 };
+        position |= (((z & 1) << 2 | number) as u64) << (3 * i);
+        x >>= 1;
+        y >>= 1;
+        z >>= 1;
     }
     position
 }

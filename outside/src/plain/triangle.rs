@@ -32,18 +32,21 @@ fn step(x: u32, y: u32, kind: usize, shift: u8) -> super::Up {
     UP[kind][((y >> shift & 1) << 1 | (x >> shift & 1)) as usize]
 }
 
-/// The position of a valid triangle.
+/// The position of a valid triangle, in sides of its level: a number is by the last bits of x and y, and so is the parent's
+/// type.
 #[inline(always)]
 fn rank(e: Triangle) -> u64 {
+    let shift = HIGHEST - e.level;
+    let (mut x, mut y) = (e.x >> shift, e.y >> shift);
     let mut position = 0;
-    // A whole word from the start, so that the loop need not widen it at each turn.
-    let mut kind = usize::from(e.kind == 1);
-    let mut digit = 0;
-    for shift in HIGHEST - e.level..HIGHEST {
-        let up = step(e.x, e.y, kind, shift);
-        position |= (up.number as u64) << digit;
-        kind = up.kind as usize;
-        digit += 2;
+    let mut kind = e.kind as u32;
+    for i in 0..e.level {
+        let agree = (x ^ y) & 1 == 0;
+        let number = if agree { 3 * (x & 1) } else { 1 + kind };
+        kind = if agree { kind } else { y & 1 };
+        position |= (number as u64) << (2 * i);
+        x >>= 1;
+        y >>= 1;
     }
     position
 }
