@@ -8,12 +8,19 @@ use gwerniloc::{Prism, Triangle, HIGHEST_LEVEL};
 
 const PAGE: &str = include_str!("../../docs/PENCIL.md");
 
+/// The sentences of steps 2 to 4 that say what to write.
 const NUMBER: &str = "the triangle's number is 0 when neither the digit of x nor that of y is set, 3 when both are, \
     and otherwise 1 plus the type;";
 const PRISM_NUMBER: &str = "the prism's number is that, and 4 more when the digit of z is set;";
 const ABOVE: &str =
-    "the type above, with which the next row begins, is the same type when the digits of x and y agree, \
+    "the type above, which is the type of the next row, is the same type when the digits of x and y agree, \
     and otherwise the digit of y.";
+const LEVELS: &str =
+    "from the prism's own level, with its own type, to level 1. At each level look at the digits of that level:";
+const ENDS: &str = "It is 0 when the prism lies in the root, and 1 when it does not:";
+const POSITION: &str =
+    "the prism's numbers are its digits in base 8, that of level 1 first. Begin with 0, and for each number \
+    from level 1 on take 8 times what you have and add the number.";
 const HEAD: &str =
     "| Level | Digit of x | Digit of y | Digit of z | Type | Triangle's number | Prism's number | Type above |";
 
@@ -50,7 +57,7 @@ fn above(x: bool, y: bool, kind: u8) -> u8 {
     }
 }
 
-/// The rows of a prism's page, from its own level up.
+/// The rows of a prism's page, by [`LEVELS`] and [`PRISM_NUMBER`].
 fn page(e: Prism) -> Vec<Row> {
     let [x, y, z] = [e.x, e.y, e.z].map(|coordinate| binary(coordinate, e.level));
     let set = |digits: &str, level: u8| digits.as_bytes()[level as usize - 1] == b'1';
@@ -67,7 +74,7 @@ fn page(e: Prism) -> Vec<Row> {
     rows
 }
 
-/// "Begin with 0, and for each number from level 1 on take 8 times what you have and add the number."
+/// By [`POSITION`].
 fn position(rows: &[Row]) -> u64 {
     rows.iter().rev().fold(0, |sum, row| 8 * sum + row[6] as u64)
 }
@@ -111,8 +118,8 @@ fn random_prisms_of_every_level() {
     }
 }
 
-/// Any anchor of a level's grid, in the root or not: the page ends with type 0 for those that the library accepts, and with
-/// type 1 for the others, which it refuses as outside the root.
+/// By [`ENDS`], any anchor of a level's grid: the page ends with type 0 for those that the library accepts, and with type 1 for
+/// the others, which it refuses as outside the root.
 #[test]
 fn the_type_above_level_1_tells() {
     for level in 0..=6 {
@@ -121,7 +128,7 @@ fn the_type_above_level_1_tells() {
         for x in 0..1 << level {
             for y in 0..1 << level {
                 for kind in 0..2 {
-                    let e = Prism { x: x * side, y: y * side, z: 0, level, kind };
+                    let e = Prism { x: x * side, y: y * side, z: (x ^ y) * side, level, kind };
                     let ends = page(e).last().map_or(kind, |row| row[7]);
                     let refusal = e.position().err().map(|refusal| refusal.number);
                     assert_eq!(refusal, [None, Some(4)][ends as usize], "{e:?}");
@@ -130,6 +137,24 @@ fn the_type_above_level_1_tells() {
             }
         }
         assert_eq!(inside, 4u64.pow(level as u32));
+    }
+}
+
+/// "Where something is left over, or a quotient needs more digits, the anchor is wrong": refusal 2, whatever the coordinate.
+#[test]
+fn a_wrong_anchor() {
+    let mut random = Random(0x616e_6368_6f72);
+    for level in 0..=HIGHEST_LEVEL {
+        let side = 1 << (HIGHEST_LEVEL - level);
+        let e = Prism::at(level, random.below(8u64.pow(level as u32))).expect("a position");
+        for wrong in [1 << HIGHEST_LEVEL, (1 << HIGHEST_LEVEL) + side, side - 1, side / 2 + side] {
+            let right = wrong < 1 << HIGHEST_LEVEL && wrong % side == 0;
+            for anchor in [[wrong, e.y, e.z], [e.x, wrong, e.z], [e.x, e.y, wrong]] {
+                let [x, y, z] = anchor;
+                let answer = Prism { x, y, z, ..e }.position();
+                assert_eq!(answer.is_err_and(|refusal| refusal.number == 2), !right, "{anchor:?} at level {level}");
+            }
+        }
     }
 }
 
@@ -143,14 +168,11 @@ fn numbers(text: &str) -> Vec<u64> {
         .collect()
 }
 
-/// What a cell of the table says: a number, or a sum, which must be right.
-fn cell(text: &str) -> u8 {
-    let said = numbers(text);
-    let value = *said.last().expect("a number");
-    if let [first, second, sum] = said[..] {
-        assert_eq!(first + second, sum, "{text}");
-    }
-    value as u8
+/// A row as the table writes it, with its sums.
+fn written([level, x, y, z, kind, triangle, prism, above]: Row) -> String {
+    let sum = if x == y { triangle.to_string() } else { format!("1 + {kind} = {triangle}") };
+    let more = if z == 0 { prism.to_string() } else { format!("4 + {triangle} = {prism}") };
+    format!("| {level} | {x} | {y} | {z} | {kind} | {sum} | {more} | {above} |")
 }
 
 /// The one line of the example that begins like this.
@@ -163,7 +185,7 @@ fn line<'a>(example: &'a str, begins: &str) -> &'a str {
 
 #[test]
 fn the_rule_on_the_page() {
-    for said in [NUMBER, PRISM_NUMBER, ABOVE] {
+    for said in [LEVELS, NUMBER, PRISM_NUMBER, ABOVE, ENDS, POSITION] {
         assert!(PAGE.contains(said), "not on the page: {said}");
     }
     let sides = numbers(PAGE.lines().find(|line| line.contains("halved once for each level")).expect("the sides"));
@@ -187,11 +209,7 @@ fn the_example_on_the_page() {
     let rows = page(e);
     let table: Vec<&str> = example.lines().filter(|line| line.starts_with('|')).collect();
     assert_eq!(table[0], HEAD);
-    let read: Vec<Row> = table[2..]
-        .iter()
-        .map(|line| line.trim_matches('|').split('|').map(cell).collect::<Vec<_>>().try_into().expect("eight cells"))
-        .collect();
-    assert_eq!(read, rows);
+    assert_eq!(table[2..], rows.iter().map(|&row| written(row)).collect::<Vec<_>>());
 
     let [c, b, a] = [0, 1, 2].map(|i| rows[i][6]);
     let ends = format!("The type above level 1 is {}: the prism lies in the root.", rows[2][7]);

@@ -4,5 +4,5 @@ pub mod Overlay
 pub mod Rank
 pub mod Controls
 pub mod Bey
-pub mod AtRoot
+pub mod InRoot
 pub mod Pencil

@@ -10,16 +10,16 @@ use lib.Dec.{eqb}
 use borrow.Author.Tests.{eqb-true, eqb-false}
 use Rattle.tree.specs.Anchors.{side, rounded, bitAt}
 use Rattle.tree.specs.Laws.{Sound}
-use Rattle.tree.specs.Words.{positionAt, elementAt}
+use Rattle.tree.specs.Words.{positionAt}
 use Rattle.tree.proofs.Anchor.{side-suc, units-back, bit-lt}
-use Rattle.rows.specs.Rows.{step, parentKind, numberOf}
+use Rattle.rows.specs.Rows.{step, parentKind}
 use Rattle.rows.proofs.Siblings.{by-rule}
 use Rattle.prism.specs.declared.Prism.{Prism}
 use Rattle.prism.specs.Elements.{prismTo, plan, parent, number}
 use Rattle.prism.proofs.Laws.{lawful, grids}
 use Rattle.triangle.specs.Elements as triangle
-use Rattle.index.specs.Pencil.{row, typeAbove, page, pageOf, rowFor, base8, Pencil, Worked}
-use Rattle.index.proofs.AtRoot.{ends-0, ends-1}
+use Rattle.index.specs.Pencil.{row, typeAbove, page, pageOf, rowFor, base8, Pencil}
+use Rattle.index.proofs.InRoot.{ends-0, ends-1}
 
 -- the type above is the parent's
 type-above : (x y t : ℕ) → x < 2 → y < 2 → t < 2 → typeAbove x y t ≡ parentKind (step x y t)
@@ -59,12 +59,16 @@ module _ (L : ℕ) where
         let h = side L (e .level) in
         ap (λ (m : ℕ). page m (e .x / h) (e .y / h) (e .z / h) (e .kind)) level
         ∙ ap₂ _∷_
-        (ap₂ (λ (m a : ℕ). row m (bitAt L (e .level) (e .x)) (bitAt L (e .level) (e .y)) (bitAt L (e .level) (e .z)) (e .kind) (triangle.number L (plan e)) (number L e) a) (sym level) type-up)
+        (ap₂
+        (λ (m a : ℕ). row m (bitAt L (e .level) (e .x)) (bitAt L (e .level) (e .y)) (bitAt L (e .level) (e .z)) (e .kind) (triangle.number L (plan e)) (number L e) a)
+        (sym level) type-up)
         (λ i. page (sym up-level i) (before (e .x) i) (before (e .y) i) (before (e .z) i) (type-up i))
 
   gives : (l : ℕ) (e : Prism) → Sound (prismTo L) e → e .level ≡ l → positionAt (prismTo L) l e ≡ base8 (pageOf L e)
   unfolding positionAt page base8 prismTo
-  gives zero e sound level = ap (λ (m : ℕ). base8 (page m (e .x / side L (e .level)) (e .y / side L (e .level)) (e .z / side L (e .level)) (e .kind))) (sym level)
+  gives zero e sound level =
+      let h = side L (e .level) in
+      ap (λ (m : ℕ). base8 (page m (e .x / h) (e .y / h) (e .z / h) (e .kind))) (sym level)
   gives (suc l) e sound level =
       let up = lawful L .parent-sound e sound (omega arith) in
       ap (λ (above : ℕ). 8 * above + number L e) (gives l (parent L e) up (up-level l e sound level))
@@ -79,7 +83,3 @@ pencil L =
       ends-with-type-0 = ends-0 L;
       ends-with-type-1 = ends-1 L;
     }
-
-pub worked : Worked
-unfolding page base8 positionAt elementAt prismTo numberOf parentKind
-worked = record { rows = refl; sum = refl; there = refl; back = refl }

@@ -1,17 +1,19 @@
 -- docs/PENCIL.md, for document 02, ticket 3: "Geologists check our report with a pencil and don't want a lookup." A prism's position worked out
 -- on a page, from its anchor in binary and its type, by the ticket's rule. L is the highest level. Definitions only.
 --
---   Row            a row of the page: a level, the digits of x, y and z of that level, the type there, and what is worked out from them: the
+--   Row, row       a row of the page: a level, the digits of x, y and z of that level, the type there, and what is worked out from them: the
 --                  triangle's number, the prism's ("4 times the line number plus the triangle number"), the type above, which is the parent's
 --   typeAbove x y t   the type itself where the digits of x and y agree, else the digit of y
---   page l u v w t   the rows from level l up to level 1, of an anchor of u, v and w sides and a type t. The last binary digit of u is n of
---                  u = 2 m + n, the digits before it are those of m
+--   rowOf l x y z t   the row of level l, by its digits and its type
+--   page l u v w t   the rows from level l up to level 1, of an anchor of u, v and w sides and a type t. The last binary digit of u is u % 2, the
+--                  digits before it are those of u / 2
 --   base8 rows     the position: the prism's numbers as the digits of a base-8 number, that of level 1 highest
 --   atRoot t rows  the type above level 1, of a page that begins with type t
---   Pencil L       of every prism: each row has the digits of the anchor at its level, the triangle's and the prism's number and the parent's
---                  type, and the rest is the parent's page; the page gives the position; it ends with type 0, and with type 1 where the
---                  prism is refused as outside the root
---   Worked         the example of docs/PENCIL.md, row by row
+--   pageOf L e     the page of a prism: its anchor in sides of its level
+--   rowFor L e     its row, by what the library says of it: the anchor's bits at its level, its triangle's number and its own, its parent's type
+--   Pencil L       of every valid prism: its page is its row and then its parent's page; the page gives the position, and ends with type 0. Of one
+--                  that is refused as outside the root it ends with type 1
+--   example, Worked   the example of docs/PENCIL.md, row by row
 --
 -- Assumes nothing.
 use mathlib.Core.Path.{_≡_}
@@ -46,7 +48,6 @@ row l x y z t n m a =
 abbrev pub typeAbove : ℕ → ℕ → ℕ → ℕ
 typeAbove x y t = cond (eqb x y) t y
 
--- by the three digits of level l and the type there
 abbrev pub rowOf : ℕ → ℕ → ℕ → ℕ → ℕ → Row
 rowOf l x y z t = row l x y z t (numberOf (step x y t)) (4 * z + numberOf (step x y t)) (typeAbove x y t)
 
@@ -65,11 +66,9 @@ atRoot t [] = t
 atRoot t (r ∷ above) = atRoot (r .type-above) above
 
 module _ (L : ℕ) where
-  -- the anchor in sides of the prism's level
   abbrev pub pageOf : Prism → List Row
   pageOf e = page (e .level) (e .x / side L (e .level)) (e .y / side L (e .level)) (e .z / side L (e .level)) (e .kind)
 
-  -- the row of a prism, by what the library says of it
   abbrev pub rowFor : Prism → Row
   rowFor e =
       row (e .level) (bitAt L (e .level) (e .x)) (bitAt L (e .level) (e .y)) (bitAt L (e .level) (e .z)) (e .kind)
@@ -81,13 +80,13 @@ module _ (L : ℕ) where
     pub ends-with-type-0 : (e : Prism) → Sound (prismTo L) e → atRoot (e .kind) (pageOf e) ≡ 0
     pub ends-with-type-1 : (e : Prism) → prismTo L .fault e ≡ 4 → atRoot (e .kind) (pageOf e) ≡ 1
 
--- level 3, anchor 7, 2 and 5 sides of 262,144, type 1
+-- level 3, anchor 5, 3 and 6 sides of 262,144, type 0
 abbrev pub example : Prism
-example = record { x = 1835008; y = 524288; z = 1310720; level = 3; kind = 1 }
+example = record { x = 1310720; y = 786432; z = 1572864; level = 3; kind = 0 }
 
 pub record Worked : Type 0 where
   -- level, digits of x, y and z, type, the triangle's number, the prism's, the type above
-  pub rows : pageOf HIGHEST example ≡ row 3 1 0 1 1 2 6 0 ∷ row 2 1 1 0 0 3 3 0 ∷ row 1 1 0 1 0 1 5 0 ∷ []
-  pub sum : base8 (pageOf HIGHEST example) ≡ 350
-  pub there : calls.position prism example ≡ accepted 350
-  pub back : calls.at prism 3 350 ≡ accepted example
+  pub rows : pageOf HIGHEST example ≡ row 3 1 1 0 0 3 3 0 ∷ row 2 0 1 1 0 1 5 1 ∷ row 1 1 0 1 1 2 6 0 ∷ []
+  pub sum : base8 (pageOf HIGHEST example) ≡ 427
+  pub there : calls.position prism example ≡ accepted 427
+  pub back : calls.at prism 3 427 ≡ accepted example

@@ -27,7 +27,8 @@ use Rattle.index.specs.Index.{lineIndex, triangleIndex, prismIndex}
 use Rattle.index.specs.Rank.{Ranked}
 use Rattle.index.proofs.Rank.{line-ranked, triangle-ranked, prism-ranked}
 use Rattle.index.proofs.Bey.{bey}
-use Rattle.index.proofs.Pencil.{pencil, worked}
+use Rattle.index.proofs.Controls.{worked}
+use Rattle.index.proofs.Pencil.{pencil}
 use Rattle.leaves.proofs.Ancestors.{cell-laws}
 use Rattle.adaption.proofs.Elements.{relatives}
 use Rattle.corners.specs.declared.Root.{Root}

@@ -1,4 +1,4 @@
--- The number that is worked out is the place in the child rows, and the parent's type is read off the bits: eight steps, computed.
+-- The number that is worked out is the place in the child rows, and the parent's type is read off the bits and the type: eight steps, computed.
 -- Assumes nothing.
 use mathlib.Core.Path.{_≡_, refl, ap, sym}
 use Prim.Native.Nat.{ℕ, _+_, _*_, _<_}
@@ -33,8 +33,13 @@ bits-differ : (s : Step) → IsStep s → (s .x ≡ s .y → ⊥) → parentKind
 bits-differ s k d = sym (ap (λ (p : Slot). p .kind) (slot-differ (s .x) (s .y) (s .kind) (k .x-bit) (k .y-bit) (k .type) d))
 
 pub by-rule : ByRule
+unfolding numberOf
 by-rule =
     record {
+      neither-bit = λ t. refl;
+      both-bits = λ t. refl;
+      bit-of-x = λ t. refl;
+      bit-of-y = λ t. refl;
       number-of-child = numberOf-child;
       parent-of-child = parentKind-child;
       one-of-four = λ s k. numberOf-lt (s .x) (s .y) (s .kind) (k .x-bit) (k .y-bit) (k .type);

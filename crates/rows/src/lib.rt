@@ -68,8 +68,8 @@ pub fn child_row(kind: u8, number: u8) -> Step
     }
 }
 
-// By the last bits of x and y, which are the anchor's at the triangle's level. One test, not one for each of the rule's three cases: the compiler
-// makes selections of it, where it would make branches, which are guessed wrong (docs/SPEED.md).
+// By the last bits of x and y, which are the anchor's at the triangle's level. One test, where the rule as it is said takes two: of one the
+// compiler makes selections, of two branches, which are guessed wrong (docs/SPEED.md).
 pub fn slot_of(x: u32, y: u32, kind: u8) -> Slot
     ensures { λ r. ⌜ r ≡ slotOf (step (x % 2) (y % 2) (kind % 2)) ⌝ }
 {

@@ -1,5 +1,6 @@
-//! The calls once more, as a C programmer would write them: constant tables, a loop over the levels, one over a list, one
-//! over the bytes of an order line; and for a section a second way, without a loop over the levels.
+//! The calls once more, as a C programmer would write them: constant tables, but for a position the rule of document 02; a
+//! loop over the levels, one over a list, one over the bytes of an order line; and for a section a second way, without a loop
+//! over the levels.
 //!
 //! Written from the rules alone and not from the proved source, so that the tests hear a second opinion. The calls
 //! take and return what the C interface does, by the same convention, so that the benchmark compares like with like.

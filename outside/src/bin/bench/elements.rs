@@ -124,9 +124,7 @@ macro_rules! bench {
 }
 
 pub fn rows(random: &mut Random) {
-    println!(
-        "Nanoseconds a call: the proved library against plain Rust (tables and a loop over the levels), both -O3."
-    );
+    println!("Nanoseconds a call: the proved library against plain Rust (a loop over the levels), both -O3.");
     println!(
         "{INPUTS} random inputs, {ROUNDS} passes, best of {REPETITIONS} repetitions in turn; ratio = proved / plain."
     );
