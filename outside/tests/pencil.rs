@@ -8,7 +8,8 @@ use gwerniloc::{Prism, Triangle, HIGHEST_LEVEL};
 
 const PAGE: &str = include_str!("../../docs/PENCIL.md");
 
-/// The sentences of steps 2 to 4 that say what to write.
+// What the page says of a wrong anchor, what steps 2 to 4 say to write, and what the end tells.
+const WRONG: &str = "Where something is left over, or a quotient needs more digits, the anchor is wrong.";
 const NUMBER: &str = "the triangle's number is 0 when neither the digit of x nor that of y is set, 3 when both are, \
     and otherwise 1 plus the type;";
 const PRISM_NUMBER: &str = "the prism's number is that, and 4 more when the digit of z is set;";
@@ -118,8 +119,8 @@ fn random_prisms_of_every_level() {
     }
 }
 
-/// By [`ENDS`], any anchor of a level's grid: the page ends with type 0 for those that the library accepts, and with type 1 for
-/// the others, which it refuses as outside the root.
+/// By [`ENDS`], every x, y and type of a level's grid, one z each: the page ends with type 0 for those that the library accepts,
+/// and with type 1 for the others, which it refuses as outside the root.
 #[test]
 fn the_type_above_level_1_tells() {
     for level in 0..=6 {
@@ -140,7 +141,7 @@ fn the_type_above_level_1_tells() {
     }
 }
 
-/// "Where something is left over, or a quotient needs more digits, the anchor is wrong": refusal 2, whatever the coordinate.
+/// By [`WRONG`]: refusal 2, in whichever coordinate. At level 21 the last two are right, and are not refused by 2.
 #[test]
 fn a_wrong_anchor() {
     let mut random = Random(0x616e_6368_6f72);
@@ -185,7 +186,7 @@ fn line<'a>(example: &'a str, begins: &str) -> &'a str {
 
 #[test]
 fn the_rule_on_the_page() {
-    for said in [LEVELS, NUMBER, PRISM_NUMBER, ABOVE, ENDS, POSITION] {
+    for said in [WRONG, LEVELS, NUMBER, PRISM_NUMBER, ABOVE, ENDS, POSITION] {
         assert!(PAGE.contains(said), "not on the page: {said}");
     }
     let sides = numbers(PAGE.lines().find(|line| line.contains("halved once for each level")).expect("the sides"));

@@ -8,11 +8,11 @@
 --   page l u v w t   the rows from level l up to level 1, of an anchor of u, v and w sides and a type t. The last binary digit of u is u % 2, the
 --                  digits before it are those of u / 2
 --   base8 rows     the position: the prism's numbers as the digits of a base-8 number, that of level 1 highest
---   atRoot t rows  the type above level 1, of a page that begins with type t
+--   atRoot t rows  the type above level 1, of a page whose first row has type t; t itself where there is no row
 --   pageOf L e     the page of a prism: its anchor in sides of its level
 --   rowFor L e     its row, by what the library says of it: the anchor's bits at its level, its triangle's number and its own, its parent's type
---   Pencil L       of every valid prism: its page is its row and then its parent's page; the page gives the position, and ends with type 0. Of one
---                  that is refused as outside the root it ends with type 1
+--   Pencil L       of every valid prism: above level 0 its page is its row and then its parent's page; the page gives the position, and ends with
+--                  type 0. Of one that is refused as outside the root it ends with type 1
 --   example, Worked   the example of docs/PENCIL.md, row by row
 --
 -- Assumes nothing.

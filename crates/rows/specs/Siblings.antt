@@ -3,8 +3,8 @@
 --
 --   IsStep s   the two bits and the type of a step are 0 or 1 each: there are eight
 --   ByRule     the number is 0 when neither bit is set, 3 when both are, and otherwise 1 plus the type; child i of a parent of either type has
---              number i and that parent; each of the eight steps has a number below 4 and a parent of type 0 or 1, in whose row it stands at that
---              number; the parent's type is the type itself where the bits agree, else the bit of y
+--              number i and that parent's type; each of the eight steps has a number below 4 and a parent's type 0 or 1, in whose row it stands at
+--              that number; the parent's type is the type itself where the bits agree, else the bit of y
 --
 -- Assumes nothing.
 use mathlib.Core.Path.{_≡_}

@@ -2,8 +2,9 @@
 //! loop over the levels, one over a list, one over the bytes of an order line; and for a section a second way, without a loop
 //! over the levels.
 //!
-//! Written from the rules alone and not from the proved source, so that the tests hear a second opinion. The calls
-//! take and return what the C interface does, by the same convention, so that the benchmark compares like with like.
+//! Written from the rules alone and not from the proved source, so that the tests hear a second opinion; but a position has
+//! the proved code's form of the rule, for its speed, and the second opinion on it is `CHILD`, `UP` and tests/pencil.rs. The
+//! calls take and return what the C interface does, by the same convention, so that the benchmark compares like with like.
 
 use crate::{Line, Prism, Triangle};
 

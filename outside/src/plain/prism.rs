@@ -42,8 +42,8 @@ fn step(e: Prism, kind: usize, shift: u8) -> super::Up {
     super::Up { number: ((e.z >> shift & 1) << 2) as u8 | up.number, kind: up.kind }
 }
 
-/// The position of a valid prism, in sides of its level. By the last bits of x and y and by the type are the number and, as
-/// the child rows have it, the parent's type.
+/// The position of a valid prism. Coordinates are taken in sides of its level; the triangle's number and, as the child rows
+/// have it, the parent's type are by the last bits of x and y and by the type.
 #[inline(always)]
 fn rank(e: Prism) -> u64 {
     let shift = HIGHEST - e.level;

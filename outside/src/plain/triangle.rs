@@ -32,8 +32,8 @@ fn step(x: u32, y: u32, kind: usize, shift: u8) -> super::Up {
     UP[kind][((y >> shift & 1) << 1 | (x >> shift & 1)) as usize]
 }
 
-/// The position of a valid triangle, in sides of its level. By the last bits of x and y and by the type are the number and,
-/// as the child rows have it, the parent's type.
+/// The position of a valid triangle. Coordinates are taken in sides of its level; the number and, as the child rows have it,
+/// the parent's type are by the last bits of x and y and by the type.
 #[inline(always)]
 fn rank(e: Triangle) -> u64 {
     let shift = HIGHEST - e.level;
