@@ -1,16 +1,20 @@
 -- The page of a prism ends with type 0 exactly where the prism lies in the root: in sides of a level that is v + t ≤ u, which one step up keeps, both
 -- ways, and at level 0, where u and v are 0, it says that the type is 0. Assumes nothing.
-use mathlib.Core.Path.{_≡_, sym}
+use mathlib.Core.Path.{_≡_, refl, sym, subst}
 use mathlib.Core.Logic.{_↔_, inl, inr}
-use mathlib.Core.Bool.{false}
+use mathlib.Core.Bool.{Bool, true, false, cond}
 use Prim.Native.Nat.{ℕ, zero, suc, _+_, _*_, _/_, _%_, _^_, _≤_, _<_}
 use native.Mathlib.Nat.{mod-lt, pow-suc}
 use native.Mathlib.Omega.{arith}
-use lib.Dec.{lit<}
+use lib.Dec.{eqb, lit<}
+use borrow.Author.Tests.{eqb-true, eqb-false}
 use Rattle.tree.specs.Anchors.{side, offGrid}
 use Rattle.tree.specs.Laws.{Sound}
 use Rattle.tree.proofs.Anchor.{side-pos, grid-units, units-lt}
-use Rattle.rows.proofs.Tables.{each-step}
+use Rattle.rows.specs.declared.Step.{Step}
+use Rattle.rows.specs.Rows.{step, parentKind, numberOf}
+use Rattle.rows.proofs.Tables.{parentKind-lt, numberOf-lt, childRow-slot, child-inside, parent-inside}
+use Rattle.rows.proofs.Siblings.{by-rule}
 use Rattle.line.proofs.Laws.{grid-sound}
 use Rattle.triangle.proofs.Laws.{units-inside, known-units}
 use Rattle.triangle.proofs.Inside.{multiple-grid}
@@ -22,17 +26,27 @@ use Rattle.prism.proofs.Inside.{refusal-4}
 use Rattle.prism.proofs.Laws.{grids, joined-sound}
 use Rattle.index.specs.Pencil.{typeAbove, page, pageOf, atRoot}
 
--- one step up, in sides
-inside-up : (u v x y t : ℕ) → x < 2 → y < 2 → t < 2 → (2 * v + y + t ≤ 2 * u + x) ↔ (v + typeAbove x y t ≤ u)
-inside-up u v =
-    each-step (λ (x y t : ℕ). (2 * v + y + t ≤ 2 * u + x) ↔ (v + typeAbove x y t ≤ u))
-    (λ h. omega arith, λ h. omega arith) (λ h. omega arith, λ h. omega arith) (λ h. omega arith, λ h. omega arith) (λ h. omega arith, λ h. omega arith)
-    (λ h. omega arith, λ h. omega arith) (λ h. omega arith, λ h. omega arith) (λ h. omega arith, λ h. omega arith) (λ h. omega arith, λ h. omega arith)
+module _ (x y t : ℕ) (x-bit : x < 2) (y-bit : y < 2) (typed : t < 2) where
+  -- the type above is the parent's
+  pub type-above : typeAbove x y t ≡ parentKind (step x y t)
+  type-above = decide (eqb x y) refl
+    where
+      decide : (b : Bool) → eqb x y ≡ b → cond b t y ≡ parentKind (step x y t)
+      decide true e = sym (by-rule .bits-agree (step x y t) (record { x-bit = x-bit; y-bit = y-bit; type = typed }) (eqb-true x y e))
+      decide false e = sym (by-rule .bits-differ (step x y t) (record { x-bit = x-bit; y-bit = y-bit; type = typed }) (eqb-false x y e))
 
-above-lt : (x y t : ℕ) → x < 2 → y < 2 → t < 2 → typeAbove x y t < 2
-above-lt =
-    each-step (λ (x y t : ℕ). typeAbove x y t < 2)
-    (omega arith) (omega arith) (omega arith) (omega arith) (omega arith) (omega arith) (omega arith) (omega arith)
+  above-lt : typeAbove x y t < 2
+  above-lt = rw type-above (parentKind-lt x y t x-bit y-bit typed)
+
+  -- one step up, in sides, and down again to the place in the parent's row
+  inside-up : (u v : ℕ) → (2 * v + y + t ≤ 2 * u + x) ↔ (v + typeAbove x y t ≤ u)
+  inside-up u v = (
+    λ h. rw type-above (parent-inside u v x y t x-bit y-bit typed h),
+    λ h.
+        subst (λ (s : Step). 2 * v + s .y + s .kind ≤ 2 * u + s .x) (childRow-slot x y t x-bit y-bit typed)
+        (child-inside u v (parentKind (step x y t)) (numberOf (step x y t)) (parentKind-lt x y t x-bit y-bit typed) (numberOf-lt x y t x-bit y-bit typed)
+        (subst (λ (k : ℕ). v + k ≤ u) type-above h)),
+  )
 
 -- what the page of u, v and w sides ends with: type 0 or 1, and 0 exactly inside the root
 record Ends (l u v w t : ℕ) : Type 0 where
@@ -46,7 +60,7 @@ ends (suc l) u v w t u-below v-below typed =
     let small-x : u % 2 < 2 = mod-lt u (lit< tt) in
     let small-y : v % 2 < 2 = mod-lt v (lit< tt) in
     let wider = pow-suc 2 l in
-    let up = inside-up (u / 2) (v / 2) (u % 2) (v % 2) t small-x small-y typed in
+    let up = inside-up (u % 2) (v % 2) t small-x small-y typed (u / 2) (v / 2) in
     let rest = ends l (u / 2) (v / 2) (w / 2) (typeAbove (u % 2) (v % 2) t) (omega arith) (omega arith) (above-lt (u % 2) (v % 2) t small-x small-y typed) in
     record {
       low = rest .low;

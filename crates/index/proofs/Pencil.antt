@@ -1,33 +1,20 @@
 -- The page of a prism is its own row and then its parent's page: its last digits are the anchor's bits at its level, the digits before them count
 -- the parent's sides, and the type above is the parent's. Assumes nothing.
 use mathlib.Core.Path.{_≡_, refl, ap, ap₂, _∙_, sym}
-use mathlib.Core.Bool.{Bool, true, false, cond}
 use mathlib.Core.List.{_∷_}
 use Prim.Native.Nat.{ℕ, zero, suc, _+_, _-_, _*_, _/_, _<_}
 use native.Mathlib.Nat.{div-div-eq-div-mul, mul-comm}
 use native.Mathlib.Omega.{arith}
-use lib.Dec.{eqb}
-use borrow.Author.Tests.{eqb-true, eqb-false}
 use Rattle.tree.specs.Anchors.{side, rounded, bitAt}
 use Rattle.tree.specs.Laws.{Sound}
 use Rattle.tree.specs.Words.{positionAt}
 use Rattle.tree.proofs.Anchor.{side-suc, units-back, bit-lt}
-use Rattle.rows.specs.Rows.{step, parentKind}
-use Rattle.rows.proofs.Siblings.{by-rule}
 use Rattle.prism.specs.declared.Prism.{Prism}
 use Rattle.prism.specs.Elements.{prismTo, plan, parent, number}
 use Rattle.prism.proofs.Laws.{lawful, grids}
 use Rattle.triangle.specs.Elements as triangle
 use Rattle.index.specs.Pencil.{row, typeAbove, page, pageOf, rowFor, base8, Pencil}
-use Rattle.index.proofs.InRoot.{ends-0, ends-1}
-
--- the type above is the parent's
-type-above : (x y t : ℕ) → x < 2 → y < 2 → t < 2 → typeAbove x y t ≡ parentKind (step x y t)
-type-above x y t sx sy st = decide (eqb x y) refl
-  where
-    decide : (b : Bool) → eqb x y ≡ b → cond b t y ≡ parentKind (step x y t)
-    decide true e = sym (by-rule .bits-agree (step x y t) (record { x-bit = sx; y-bit = sy; type = st }) (eqb-true x y e))
-    decide false e = sym (by-rule .bits-differ (step x y t) (record { x-bit = sx; y-bit = sy; type = st }) (eqb-false x y e))
+use Rattle.index.proofs.InRoot.{type-above, ends-0, ends-1}
 
 module _ (L : ℕ) where
   -- the digits before the last count the parent's sides
