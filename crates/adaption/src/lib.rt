@@ -1,5 +1,7 @@
 // Adaption: one mark a leaf, one pass, into a second set of lent columns. The contract is the call of `specs/Calls.antt` at eight children and
 // highest level 21; the engine behind it takes the bits of a child number and the highest level as ordinary numbers.
+#![tactic(auto)]
+
 ghost use Rattle.leaves.specs.Leaves.{columns};
 ghost use Rattle.adaption.specs.Calls.{Adapted};
 

@@ -1,4 +1,6 @@
 // Whether a leaf list is balanced. The contract is the call of `specs/Balance.antt` at eight children and highest level 21.
+#![tactic(auto)]
+
 ghost use Rattle.std.specs.Prelude.{◌≡◌, ◌&&◌, List, ℕ, ◌+◌, ◌<◌, leb, length};
 ghost use Rattle.paper.specs.Readings.{truth_of};
 ghost use Rattle.tree.specs.Anchors.{HIGHEST};

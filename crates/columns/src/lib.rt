@@ -1,4 +1,6 @@
 // Leaves stored in lent columns: a uniform start, and a stretch of leaves of one root and level.
+#![tactic(auto)]
+
 ghost use Rattle.leaves.specs.Leaves.{columns};
 ghost use Rattle.leaves.specs.Calls.{Started};
 ghost use Rattle.columns.specs.Laying.{Laid};

@@ -1,5 +1,7 @@
 // The converter: reads one stored order line from standard input and prints it with the 2 that an empty field seven meant, or the old refusal.
 // The first bytes of the input decide, and no output is longer than the buffer (`converter`, `specs/Laws.antt`).
+#![tactic(auto)]
+
 use converter::LONGEST_LINE;
 use orders::LONGEST_INPUT;
 use paper::NumberAnswer;

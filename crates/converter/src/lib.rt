@@ -1,5 +1,7 @@
 // The converter for stored order lines: one call from the bytes of a line to the bytes that it prints. The contract is the call of
 // `specs/Calls.antt`.
+#![tactic(auto)]
+
 ghost use Rattle.std.specs.Prelude.{◌≡◌};
 ghost use Rattle.forms.specs.Forms.{form_of};
 ghost use Rattle.text.specs.Text.{Prints};

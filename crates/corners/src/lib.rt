@@ -1,5 +1,7 @@
 // Corner points: where a corner of an element lies in space, exactly. `specs/CornerPoints.antt` says what the single call answers,
 // `specs/Section.antt` the one over a column of positions.
+#![tactic(auto)]
+
 ghost use Rattle.std.specs.Prelude.{◌≡◌};
 ghost use Rattle.corners.specs.CornerPoints.{point_of, corner_point};
 ghost use Rattle.corners.specs.Section.{point_columns, SectionFilled};
@@ -13,7 +15,7 @@ mod work;
 
 // One of a root's six corners.
 #[repr(C)]
-#[derive(Drop)]
+#[derive(Clone, Copy)]
 pub struct Corner {
     pub x: i64,
     pub y: i64,
@@ -22,7 +24,7 @@ pub struct Corner {
 
 // A root: v0 to v2 belong to z = 0, v3 to v5 to z = EDGE, each over the one three before it. In space they may lie anywhere.
 #[repr(C)]
-#[derive(Drop)]
+#[derive(Clone, Copy)]
 pub struct Root {
     pub v0: Corner,
     pub v1: Corner,
@@ -33,7 +35,7 @@ pub struct Root {
 }
 
 #[repr(C)]
-#[derive(Drop)]
+#[derive(Clone, Copy)]
 pub struct Point {
     pub x: f64,
     pub y: f64,
@@ -41,7 +43,7 @@ pub struct Point {
 }
 
 // A point, or the refusal's number and place.
-#[derive(Drop)]
+#[derive(Clone, Copy)]
 pub enum PointAnswer {
     Is(Point),
     Refused(u8, u64),

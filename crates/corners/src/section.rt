@@ -15,7 +15,7 @@ use prism::{Prism, PrismAnswer};
 use triangle::Triangle;
 
 // What all positions share: the level, its side, the corner number, and the steps to that corner of each child.
-#[derive(Drop)]
+#[derive(Clone, Copy)]
 struct Section {
     level: u8,
     side: u32,
@@ -24,7 +24,7 @@ struct Section {
 }
 
 // The parent of the last element, and its position. In level 0 it is the root, which is the element itself.
-#[derive(Drop)]
+#[derive(Clone, Copy)]
 struct Kept {
     position: u64,
     parent: Prism,

@@ -15,7 +15,7 @@ use prism::Prism;
 use triangle::Triangle;
 
 // One coordinate of a root's six corners.
-#[derive(Drop)]
+#[derive(Clone, Copy)]
 pub(crate) struct Axis {
     pub v0: i64,
     pub v1: i64,
@@ -26,7 +26,7 @@ pub(crate) struct Axis {
 }
 
 // Where a corner lies within the root, on the scale of its edge.
-#[derive(Drop)]
+#[derive(Clone, Copy)]
 pub(crate) struct Local {
     pub x: u32,
     pub y: u32,

@@ -1,4 +1,6 @@
 // Answers a few questions about prisms, as the geologists put them.
+#![tactic(auto)]
+
 use paper::NumberAnswer;
 use prism::{Prism, PrismAnswer};
 

@@ -8,14 +8,14 @@ use crate::cut;
 const MOST: usize = 9;
 
 // The number in a field, and where the field ends.
-#[derive(Drop)]
+#[derive(Clone, Copy)]
 pub enum Numbered {
     Is(u64, usize),
     Refused(u8, u64),
 }
 
 // Some digits: what they say, and how many there are.
-#[derive(Drop)]
+#[derive(Clone, Copy)]
 struct Run {
     number: u64,
     count: usize,

@@ -1,4 +1,6 @@
 // Runs document 01's file examples: the files of a uniform start and of its leaf 2 refined, read back; and two numbers of a file.
+#![tactic(auto)]
+
 use paper::NumberAnswer;
 use reader::GridAnswer;
 

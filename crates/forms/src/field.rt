@@ -6,7 +6,7 @@ use fields::digits;
 use fields::digits::Numbered;
 
 // A field: its refusal, 0 where there is none, and then its number and where it ends.
-#[derive(Drop)]
+#[derive(Clone, Copy)]
 pub(crate) struct Found {
     pub fault: u8,
     pub number: u64,

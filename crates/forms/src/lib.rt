@@ -1,4 +1,6 @@
 // The order line: its seven fields from left to right, each with its number and its range.
+#![tactic(auto)]
+
 ghost use Rattle.std.specs.Prelude.{◌≡◌};
 ghost use Rattle.forms.specs.Forms.{form_of};
 ghost use Rattle.forms.specs.Forms.{read as Forms·read};
@@ -9,7 +11,7 @@ mod field;
 mod range;
 
 // The numbers of an order, as its first line prints them.
-#[derive(Drop)]
+#[derive(Clone, Copy)]
 pub struct Form {
     pub order: u64,
     pub site: u64,
@@ -21,7 +23,7 @@ pub struct Form {
 }
 
 // What the input asks for, or the refusal's number and the field.
-#[derive(Drop)]
+#[derive(Clone, Copy)]
 pub enum FormAnswer {
     Is(Form),
     Refused(u8, u64),

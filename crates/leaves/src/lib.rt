@@ -1,5 +1,7 @@
 // Leaf lists over lent columns: root, level, position. The contract of the list check is the call of `specs/Calls.antt` at eight children and
 // highest level 21; the engine behind it takes the bits of a child number and the highest level as ordinary numbers.
+#![tactic(auto)]
+
 ghost use Rattle.std.specs.Prelude.{◌≡◌, ◌&&◌, ◌-◌, ◌*◌, ◌^◌, ◌≤◌, ◌<◌, eqb, length};
 ghost use Rattle.paper.specs.Outcome.{passed, rows};
 ghost use Rattle.paper.specs.Readings.{checks_of, pass_of};
@@ -23,7 +25,7 @@ pub const LIMIT: usize = 1048576;
 pub const MOST: u16 = 4096;
 
 // Where a list has come to: a root, and a smallest cell of it.
-#[derive(Drop)]
+#[derive(Clone, Copy)]
 pub(crate) struct Cursor {
     pub(crate) root: u16,
     pub(crate) cell: u64,

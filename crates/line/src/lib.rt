@@ -1,5 +1,7 @@
 // Lines: the upright part of a prism. Each contract is one of the ten calls of `tree`, at this shape; `specs/Elements.antt` says
 // what a line is.
+#![tactic(auto)]
+
 ghost use Rattle.std.specs.Prelude.{◌≡◌, ◌<◌};
 ghost use Rattle.paper.specs.Readings.{value_of, truth_of, comparison_of};
 ghost use Rattle.tree.specs.Calls;
@@ -13,14 +15,14 @@ mod family;
 mod work;
 
 #[repr(C)]
-#[derive(Drop)]
+#[derive(Clone, Copy)]
 pub struct Line {
     pub x: u32,
     pub level: u8,
 }
 
 // A line, or the refusal's number and place.
-#[derive(Drop)]
+#[derive(Clone, Copy)]
 pub enum LineAnswer {
     Is(Line),
     Refused(u8, u64),

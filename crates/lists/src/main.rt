@@ -1,4 +1,6 @@
 // Runs document 01's list examples: what a uniform start needs, a leaf refined and merged back, and the shares of four weights.
+#![tactic(auto)]
+
 use paper::{NumberAnswer, PassAnswer};
 
 fn refused(number: u8, place: u64) {

@@ -1,4 +1,6 @@
 // The marks of a list, one a leaf: 0 keep, 1 refine, 2 merge.
+#![tactic(auto)]
+
 ghost use Rattle.std.specs.Prelude.{◌≡◌, ◌&&◌, leb, ltb, eqb, length};
 ghost use Rattle.paper.specs.Outcome.{checks, fault_when};
 ghost use Rattle.paper.specs.Readings.{checks_of, Finds};

@@ -1,11 +1,13 @@
 // The numbers of a grid file: "groups of seven bits, lowest group first, top bit set on all but the last byte, shortest form, three bytes at
 // most."
+#![tactic(auto)]
+
 ghost use Rattle.std.specs.Prelude.{◌≡◌, length};
 ghost use Rattle.numbers.specs.Numbers.{bytes_of, number_at};
 ghost use Rattle.numbers.specs.Answers.{found_of};
 
 // A number that was found: its value and the offset of what follows it, or the refusal's number and place.
-#[derive(Drop)]
+#[derive(Clone, Copy)]
 pub enum FoundNumber {
     Is(u32, usize),
     Refused(u8, u64),

@@ -1,5 +1,7 @@
 // The order program: reads one line from standard input and prints what it asks for, or one line of refusal. The first bytes of the input
 // decide, and no output is longer than the buffer (`orders`, `specs/Laws.antt`).
+#![tactic(auto)]
+
 use orders::{LONGEST_INPUT, LONGEST_OUTPUT};
 use paper::NumberAnswer;
 

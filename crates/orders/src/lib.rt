@@ -1,4 +1,6 @@
 // The order program: one call from the bytes of its input to the bytes that it prints. The contract is the call of `specs/Calls.antt`.
+#![tactic(auto)]
+
 ghost use Rattle.orders.specs.Calls.{Answered};
 
 use paper::NumberAnswer;

@@ -1,5 +1,7 @@
 // Runs document 01's marked point, every corner of that root, and points with negative numbers, at zero and of flat and folded roots.
 // The coordinates are multiples of an eighth, so that three decimals are exact.
+#![tactic(auto)]
+
 use corners::{Corner, PointAnswer, Root};
 
 fn say_size(x: f64) {

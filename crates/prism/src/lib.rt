@@ -1,5 +1,7 @@
 // Prisms: a triangle times a line. Each contract is one of the ten calls of `tree`, at this shape; `specs/Elements.antt`
 // says what a prism is.
+#![tactic(auto)]
+
 ghost use Rattle.std.specs.Prelude.{◌≡◌, ◌<◌};
 ghost use Rattle.paper.specs.Readings.{value_of, truth_of, comparison_of};
 ghost use Rattle.tree.specs.Calls;
@@ -13,7 +15,7 @@ mod family;
 mod work;
 
 #[repr(C)]
-#[derive(Drop)]
+#[derive(Clone, Copy)]
 pub struct Prism {
     pub x: u32,
     pub y: u32,
@@ -24,7 +26,7 @@ pub struct Prism {
 }
 
 // A prism, or the refusal's number and place.
-#[derive(Drop)]
+#[derive(Clone, Copy)]
 pub enum PrismAnswer {
     Is(Prism),
     Refused(u8, u64),

@@ -1,4 +1,6 @@
 // The promises: the order's three demands and the paper's starred examples, as the contract of one function.
+#![tactic(auto)]
+
 ghost use Rattle.std.specs.Prelude.{◌≡◌};
 ghost use Rattle.promises.specs.Promises.{Promises};
 ghost use Rattle.promises.specs.Constants.{stated};
@@ -13,14 +15,14 @@ pub fn promised()
 {}
 
 // The constants that a shape states.
-#[derive(Drop)]
+#[derive(Clone, Copy)]
 pub struct Counts {
     pub children: u8,
     pub faces: u8,
     pub corners: u8,
 }
 
-#[derive(Drop)]
+#[derive(Clone, Copy)]
 pub struct AllCounts {
     pub line: Counts,
     pub triangle: Counts,

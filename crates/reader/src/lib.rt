@@ -1,4 +1,6 @@
 // The grid file read: where it is sound and the columns have room, its leaves are written.
+#![tactic(auto)]
+
 ghost use Rattle.std.specs.Prelude.{◌≡◌, length};
 ghost use Rattle.leaves.specs.Leaves.{columns};
 ghost use Rattle.format.specs.Reading.{head};
@@ -10,14 +12,14 @@ use sounding::HeadAnswer;
 mod fill;
 
 // A grid that was read: its roots and the number of its leaves, or the refusal's number and place.
-#[derive(Drop)]
+#[derive(Clone, Copy)]
 pub enum GridAnswer {
     Is(u16, u64),
     Refused(u8, u64),
 }
 
 // A run of a sound file: its level, its count and the offset of what follows it.
-#[derive(Drop)]
+#[derive(Clone, Copy)]
 pub(crate) struct Pair {
     pub(crate) level: u8,
     pub(crate) count: u32,

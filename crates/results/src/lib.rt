@@ -1,4 +1,6 @@
 // From an answer to what goes over the C interface: a refusal's word and the value beside it. `specs/Results.antt` says how.
+#![tactic(auto)]
+
 ghost use Rattle.std.specs.Prelude.{◌≡◌, ◌+◌, ◌*◌, ◌%◌, ◌^◌};
 ghost use Rattle.paper.specs.Readings.{value_of, truth_of, comparison_of, pass_of};
 ghost use Rattle.corners.specs.CornerPoints.{point_of};
@@ -16,35 +18,35 @@ use reader::GridAnswer;
 use triangle::{Triangle, TriangleAnswer};
 
 #[repr(C)]
-#[derive(Drop)]
+#[derive(Clone, Copy)]
 pub struct LineResult {
     pub refusal: u64,
     pub value: Line,
 }
 
 #[repr(C)]
-#[derive(Drop)]
+#[derive(Clone, Copy)]
 pub struct TriangleResult {
     pub refusal: u64,
     pub value: Triangle,
 }
 
 #[repr(C)]
-#[derive(Drop)]
+#[derive(Clone, Copy)]
 pub struct PrismResult {
     pub refusal: u64,
     pub value: Prism,
 }
 
 #[repr(C)]
-#[derive(Drop)]
+#[derive(Clone, Copy)]
 pub struct NumberResult {
     pub refusal: u64,
     pub value: u64,
 }
 
 #[repr(C)]
-#[derive(Drop)]
+#[derive(Clone, Copy)]
 pub struct CompareResult {
     pub refusal: u64,
     pub value: i32,
@@ -52,7 +54,7 @@ pub struct CompareResult {
 
 // A grid that was read: its roots and the number of its leaves.
 #[repr(C)]
-#[derive(Drop)]
+#[derive(Clone, Copy)]
 pub struct GridResult {
     pub refusal: u64,
     pub roots: u64,
@@ -60,7 +62,7 @@ pub struct GridResult {
 }
 
 #[repr(C)]
-#[derive(Drop)]
+#[derive(Clone, Copy)]
 pub struct PointResult {
     pub refusal: u64,
     pub value: Point,

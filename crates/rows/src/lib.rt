@@ -1,10 +1,12 @@
 // Document 01's tables, read by type and child or face, and document 02's rule for the way up, which reads none. Types and numbers beyond a
 // table are taken modulo their count, so that each function answers for every input.
+#![tactic(auto)]
+
 ghost use Rattle.std.specs.Prelude.{◌≡◌, ◌%◌};
 ghost use Rattle.rows.specs.Rows.{step, child_row, slot_of, face_row, prism_face_row};
 
 // An entry of a triangle's table.
-#[derive(Drop)]
+#[derive(Clone, Copy)]
 pub struct Step {
     pub x: u8,
     pub y: u8,
@@ -12,14 +14,14 @@ pub struct Step {
 }
 
 // What is worked out from a triangle's bits and its type: its parent's type, and its number among its siblings.
-#[derive(Drop)]
+#[derive(Clone, Copy)]
 pub struct Slot {
     pub kind: u8,
     pub number: u8,
 }
 
 // An entry of the prism's table of faces.
-#[derive(Drop)]
+#[derive(Clone, Copy)]
 pub struct PrismStep {
     pub x: u8,
     pub y: u8,

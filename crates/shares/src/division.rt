@@ -11,7 +11,7 @@ ghost use Rattle.shares.specs.Inner.{Within, Stopped};
 use paper::Fault;
 
 // How far a share goes: a leaf count, and the sum of the weights before it.
-#[derive(Drop)]
+#[derive(Clone, Copy)]
 struct Reach {
     count: usize,
     sum: u64,

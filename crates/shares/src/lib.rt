@@ -1,5 +1,7 @@
 // Shares of a weighted leaf list: boundaries that divide the leaves among machines by their weight. The contract is the call of
 // `specs/Calls.antt` at eight children and highest level 21.
+#![tactic(auto)]
+
 ghost use Rattle.leaves.specs.Leaves.{columns};
 ghost use Rattle.shares.specs.Calls.{Shared};
 

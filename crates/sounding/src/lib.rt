@@ -1,4 +1,6 @@
 // How far a grid file is sound: what stands in front of its runs, then its runs in turn, to the first fault. Nothing is written.
+#![tactic(auto)]
+
 ghost use Rattle.std.specs.Prelude.{◌≡◌};
 ghost use Rattle.tree.specs.Anchors.{HIGHEST};
 ghost use Rattle.leaves.specs.Leaves.{CHILDREN};
@@ -13,14 +15,14 @@ mod head;
 mod walk;
 
 // What stands in front of the runs: the roots, the number of runs and the offset of the first, or the refusal's number and place.
-#[derive(Drop)]
+#[derive(Clone, Copy)]
 pub enum HeadAnswer {
     Is(u16, u32, usize),
     Refused(u8, u64),
 }
 
 // Where a list has come to: a root, and a smallest cell of it.
-#[derive(Drop)]
+#[derive(Clone, Copy)]
 pub struct Cursor {
     pub root: u64,
     pub cell: u64,
@@ -28,7 +30,7 @@ pub struct Cursor {
 
 // How far the runs of a file are sound: how many runs, and how many leaves they have; where these end; the offset of what follows; the fault
 // there.
-#[derive(Drop)]
+#[derive(Clone, Copy)]
 pub struct Sounding {
     pub runs: u32,
     pub leaves: u64,
@@ -38,7 +40,7 @@ pub struct Sounding {
 }
 
 // A run that was read: its level, its count and the offset of what follows it, or the refusal's number and place.
-#[derive(Drop)]
+#[derive(Clone, Copy)]
 pub(crate) enum RunAnswer {
     Is(u8, u32, usize),
     Refused(u8, u64),

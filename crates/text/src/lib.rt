@@ -1,5 +1,7 @@
 // What is printed, put into a lent buffer byte after byte. A byte past the buffer's end is left out; an answer counts it, so that a first pass
 // over a short buffer finds how many there are.
+#![tactic(auto)]
+
 ghost use Rattle.std.specs.Prelude.{◌≡◌, ◌+◌, ◌*◌, ◌/◌, ◌^◌, ◌≤◌, ◌<◌, min, length, set};
 ghost use Rattle.std.proofs.lemmas.List.Edits.{sets};
 ghost use Rattle.forms.specs.Forms.{form_of};

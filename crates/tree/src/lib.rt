@@ -1,4 +1,6 @@
 // What the code of the three shapes shares.
+#![tactic(auto)]
+
 ghost use Rattle.std.specs.Prelude.{◌≡◌, if◌then◌else◌};
 ghost use Rattle.paper.specs.Outcome.{accepted, same};
 ghost use Rattle.paper.specs.Readings.{comparison_of};

@@ -1,5 +1,7 @@
 // Triangles: the ground plan of a prism. Each contract is one of the ten calls of `tree`, at this shape; `specs/Elements.antt`
 // says what a triangle is.
+#![tactic(auto)]
+
 ghost use Rattle.std.specs.Prelude.{◌≡◌, not, ◌<◌};
 ghost use Rattle.paper.specs.Readings.{value_of, truth_of, comparison_of};
 ghost use Rattle.tree.specs.Calls;
@@ -13,7 +15,7 @@ mod family;
 mod work;
 
 #[repr(C)]
-#[derive(Drop)]
+#[derive(Clone, Copy)]
 pub struct Triangle {
     pub x: u32,
     pub y: u32,
@@ -23,7 +25,7 @@ pub struct Triangle {
 }
 
 // A triangle, or the refusal's number and place.
-#[derive(Drop)]
+#[derive(Clone, Copy)]
 pub enum TriangleAnswer {
     Is(Triangle),
     Refused(u8, u64),

@@ -1,4 +1,6 @@
 // The grid file written: the runs of a list as bytes.
+#![tactic(auto)]
+
 ghost use Rattle.leaves.specs.Leaves.{columns};
 ghost use Rattle.writer.specs.Calls.{FileWritten};
 

@@ -4,7 +4,7 @@ ghost use Rattle.leaves.specs.Calls.{limit};
 ghost use Rattle.writer.specs.Inner.{OneLevel, Alike, RunEnd, Counted};
 
 // The runs of a list: how many they are, and how many bytes their pairs have.
-#[derive(Drop)]
+#[derive(Clone, Copy)]
 pub(crate) struct Runs {
     pub(crate) count: u32,
     pub(crate) bytes: usize,
