@@ -56,7 +56,7 @@ module _ {E : Type 0} (S : Shape E) (W : Lawful S) where
       let trips = round_trips S W in
       record {
         level = sym (trips.at_level w.level w.position) ∙ ap S.level e ∙ W.child_level f t;
-        position = sym (trips.position_at w.level w.position proper.level proper.position) ∙ ap (words.position S) e
+        position = sym (trips.position_at_lem w.level w.position proper.level proper.position) ∙ ap (words.position S) e
             ∙ (positions S W).of_child f t sound above below;
       }
 

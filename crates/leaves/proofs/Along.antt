@@ -81,7 +81,7 @@ module _ {E : Type 0} (S : Shape E) (W : Lawful S) where
       let sound = trips.at_sound v.level v.position proper.level proper.position in
       let shallow : S.level (element_of S v) ≤ S.highest = omega (arith, proper.level) in
       (positions S W).of_first (element_of S v) S.highest sound shallow (omega arith)
-      ∙ ap₂ (λ (p l : ℕ). p * S.children ^ (S.highest - l)) (trips.position_at v.level v.position proper.level proper.position) level
+      ∙ ap₂ (λ (p l : ℕ). p * S.children ^ (S.highest - l)) (trips.position_at_lem v.level v.position proper.level proper.position) level
 
   -- ---- one leaf ends at or before the start of another
   module _ (u v : Leaf) (first : Proper S u) (second : Proper S v)

@@ -32,7 +32,7 @@ module _ {E : Type 0} (S : Shape E) (W : Lawful S) where
         record {
           root = h.root;
           ancestor = ap (λ (m : ℕ). words.position S e / S.children ^ m) (sym many) ∙ sym a.position
-              ∙ ap (words.position S) h.lies.reached ∙ (round_trips S W).position_at v.level v.position proper.level proper.position;
+              ∙ ap (words.position S) h.lies.reached ∙ (round_trips S W).position_at_lem v.level v.position proper.level proper.position;
         }
 
     of_holds : Holds S.children (S.level e) v r (words.position S e) → InLeaf S v r e
