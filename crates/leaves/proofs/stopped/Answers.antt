@@ -12,7 +12,7 @@ use Rattle.leaves.proofs.stopped.Goals as goal
 pub returns-then-i-roots : goal.returns-then-i-roots
 returns-then-i-roots c =
     let a = c.args in
-    let some = c.requires.highest_bound.1.1.1 c.if-i-roots.true in
+    let some = c.requires.fact c.if-i-roots.true in
     fault_taken c.leaf_fault.result a.i passed (λ none. some (sym c.leaf_fault.ensures ∙ none))
     ∙ ap (λ (j : ℕ). refused j a.i) c.leaf_fault.ensures
     ∙ sym (walk_found (2 ^ a.bits) a.highest a.k passed (leaf_at (columns a.roots.now a.levels.now a.positions.now)) (length a.roots.now) a.i (spot_of a.at) c.if-i-roots.true some)
