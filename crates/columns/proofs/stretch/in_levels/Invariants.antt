@@ -1,0 +1,12 @@
+-- `in_levels` meets its contract: each turn stores one entry more. Assumes nothing.
+use mathlib.Core.Path.{◌≡◌}
+use Prim.Native.Nat.{◌-◌, ◌≤◌}
+use lib.Seq.{sets}
+use Rattle.paper.specs.Outcome.{rows}
+use Rattle.columns.proofs.stretch.in_levels.Given as goal
+
+abbrev pub invariant-loop-t : goal.invariant-loop-t
+invariant-loop-t l = (l.t ≤ l.count) × (l.levels ≡ sets l.initial.levels l.at (rows (λ l.t. l.level) 0 l.t))
+
+abbrev pub decreases-loop-t : goal.decreases-loop-t
+decreases-loop-t l = l.count - l.t
