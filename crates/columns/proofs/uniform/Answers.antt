@@ -5,7 +5,7 @@ use Prim.Native.Nat.{ℕ, ◌*◌, ◌^◌, ◌≤◌, ◌<◌}
 use native.Mathlib.Omega.{arith}
 use lib.Dec.{eqb}
 use lib.ListN.{length}
-use borrow.Author.Tests.{eqb-true, not-true, not-false}
+use borrow.Author.Tests.{eqb-true}
 use Rattle.paper.specs.declared.NumberAnswer.TheVariants as number
 use Rattle.leaves.specs.Leaves.{columns}
 use Rattle.leaves.specs.Calls.{Started}
@@ -24,7 +24,7 @@ returns-then-not-equal_lengths c =
     let a = c.args in
     let m = columns a.roots.now a.levels.now a.positions.now in
     let in_range_lem = sym c.out_of_range.ensures ∙ c.if-out_of_range.false in
-    let equal = sym c.equal_lengths.ensures ∙ not-true c.equal_lengths.result c.if-not-equal_lengths.true-raw in
+    let equal = sym c.equal_lengths.ensures ∙ c.if-not-equal_lengths.true in
     not_started a.k a.level m 11 0 (columns_11 a.k a.level m in_range_lem equal)
 
 pub returns-then-level-gt-HIGHEST : goal.returns-then-level-gt-HIGHEST
@@ -32,7 +32,7 @@ returns-then-level-gt-HIGHEST c =
     let a = c.args in
     let m = columns a.roots.now a.levels.now a.positions.now in
     let in_range_lem = sym c.out_of_range.ensures ∙ c.if-out_of_range.false in
-    let equal = sym c.equal_lengths.ensures ∙ not-false c.equal_lengths.result c.if-not-equal_lengths.false-raw in
+    let equal = sym c.equal_lengths.ensures ∙ c.if-not-equal_lengths.false in
     not_started a.k a.level m 1 0 (level_1 a.k a.level m in_range_lem equal c.if-level-gt-HIGHEST.true)
 
 pub overflow_shr-level : goal.overflow_shr-level
@@ -43,7 +43,7 @@ returns-then-level-k c =
     let a = c.args in
     let m = columns a.roots.now a.levels.now a.positions.now in
     let in_range_lem = sym c.out_of_range.ensures ∙ c.if-out_of_range.false in
-    let equal = sym c.equal_lengths.ensures ∙ not-false c.equal_lengths.result c.if-not-equal_lengths.false-raw in
+    let equal = sym c.equal_lengths.ensures ∙ c.if-not-equal_lengths.false in
     let many = too_many a.k a.level 1048576 c.if-level-k.true in
     not_started a.k a.level m 15 0 (many_15 a.k a.level m in_range_lem equal c.if-level-gt-HIGHEST.false many)
 
@@ -55,7 +55,7 @@ returns-then-roots-count c =
     let a = c.args in
     let m = columns a.roots.now a.levels.now a.positions.now in
     let in_range_lem = sym c.out_of_range.ensures ∙ c.if-out_of_range.false in
-    let equal = sym c.equal_lengths.ensures ∙ not-false c.equal_lengths.result c.if-not-equal_lengths.false-raw in
+    let equal = sym c.equal_lengths.ensures ∙ c.if-not-equal_lengths.false in
     let few = few_enough a.k a.level 1048576 c.if-level-k.false in
     let exact = count_exact a.k a.level few in
     let short : length a.roots.now < a.k * 8 ^ a.level = rw (sym exact) c.if-roots-count.true in
@@ -69,7 +69,7 @@ fill-requires c =
     let few = few_enough a.k a.level 1048576 c.if-level-k.false in
     let exact = count_exact a.k a.level few in
     let room : a.k * 8 ^ a.level ≤ length a.roots.now = rw (sym exact) c.if-roots-count.false in
-    let test = sym c.equal_lengths.ensures ∙ not-false c.equal_lengths.result c.if-not-equal_lengths.false-raw in
+    let test = sym c.equal_lengths.ensures ∙ c.if-not-equal_lengths.false in
     let equal = (and-eq-true_iff (eqb (length a.roots.now) (length a.levels.now)) (eqb (length a.roots.now) (length a.positions.now))).0 test in
     let same_levels = eqb-true (length a.roots.now) (length a.levels.now) equal.0 in
     let same_positions = eqb-true (length a.roots.now) (length a.positions.now) equal.1 in record { bits_bound = omega (arith, c.if-level-gt-HIGHEST.false); bits_bound_2 = rw shifted at few; room = record { in_roots = rw shifted at room; in_levels = omega (arith, shifted, room, same_levels); in_positions = omega (arith, shifted, room, same_positions) } }
@@ -79,7 +79,7 @@ returns c =
     let a = c.args in
     let m = columns a.roots.now a.levels.now a.positions.now in
     let in_range_lem = sym c.out_of_range.ensures ∙ c.if-out_of_range.false in
-    let equal = sym c.equal_lengths.ensures ∙ not-false c.equal_lengths.result c.if-not-equal_lengths.false-raw in
+    let equal = sym c.equal_lengths.ensures ∙ c.if-not-equal_lengths.false in
     let few = few_enough a.k a.level 1048576 c.if-level-k.false in
     let exact = count_exact a.k a.level few in
     let room : a.k * 8 ^ a.level ≤ length a.roots.now = rw (sym exact) c.if-roots-count.false in

@@ -2,9 +2,8 @@
 use mathlib.Core.Path.{refl, sym, ◌∙◌}
 use Prim.Native.Nat.{◌-◌}
 use native.Mathlib.Omega.{arith}
-use borrow.Author.Tests.{not-true, not-false}
 use Rattle.forms.proofs.Deciding.{reading_start, reading_refused, reading_step}
-use Rattle.forms.proofs.Whole.{reading_open, reading_form}
+use Rattle.forms.proofs.Whole.{reading_open, level_small, leaves_small, shares_small, reading_form}
 use Rattle.forms.proofs.read.Goals as goal
 
 pub loop-i-init : goal.loop-i-init
@@ -41,9 +40,45 @@ loop-i-preserved c =
 pub returns-then-not-closing : goal.returns-then-not-closing
 returns-then-not-closing c =
     let l = c.loop-i in
-    reading_open l.invariant c.loop-i-test.false (sym c.closing.ensures ∙ not-true c.closing.result c.if-not-closing.true-raw)
+    reading_open l.invariant c.loop-i-test.false (sym c.closing.ensures ∙ c.if-not-closing.true)
+
+pub bounds-v-1 : goal.bounds-v-1
+bounds-v-1 c = omega (arith, c.loop-i.invariant.long)
+
+pub bounds-v-2 : goal.bounds-v-2
+bounds-v-2 c = omega (arith, c.loop-i.invariant.long)
+
+pub bounds-v-3 : goal.bounds-v-3
+bounds-v-3 c = omega (arith, c.loop-i.invariant.long)
+
+pub bounds-v-4-2 : goal.bounds-v-4-2
+bounds-v-4-2 c = omega (arith, c.loop-i.invariant.long)
+
+pub bounds-v-7 : goal.bounds-v-7
+bounds-v-7 c = omega (arith, c.loop-i.invariant.long)
+
+pub bounds-v-4-3 : goal.bounds-v-4-3
+bounds-v-4-3 c = omega (arith, c.loop-i.invariant.long)
+
+pub bounds-v-7-2 : goal.bounds-v-7-2
+bounds-v-7-2 c = omega (arith, c.loop-i.invariant.long)
+
+pub overflow_mul-result : goal.overflow_mul-result
+overflow_mul-result c = omega (arith, level_small c.loop-i.invariant c.loop-i-test.false)
+
+pub overflow_shl-result : goal.overflow_shl-result
+overflow_shl-result c = omega (arith, level_small c.loop-i.invariant c.loop-i-test.false)
+
+pub overflow_cast-result : goal.overflow_cast-result
+overflow_cast-result c = omega (arith, leaves_small c.loop-i.invariant c.loop-i-test.false)
+
+pub bounds-v-6 : goal.bounds-v-6
+bounds-v-6 c = omega (arith, c.loop-i.invariant.long)
+
+pub overflow_cast-result-2 : goal.overflow_cast-result-2
+overflow_cast-result-2 c = omega (arith, shares_small c.loop-i.invariant c.loop-i-test.false)
 
 pub returns : goal.returns
 returns c =
     let l = c.loop-i in
-    reading_form l.invariant c.loop-i-test.false (sym c.closing.ensures ∙ not-false c.closing.result c.if-not-closing.false-raw)
+    reading_form l.invariant c.loop-i-test.false (sym c.closing.ensures ∙ c.if-not-closing.false)

@@ -5,7 +5,6 @@ use Prim.Native.Nat.{ℕ, ◌+◌, ◌-◌, ◌^◌, ◌<◌}
 use native.Mathlib.Nat.{sub-zero}
 use native.Mathlib.Omega.{arith}
 use lib.ListN.{length}
-use borrow.Author.Tests.{not-true, not-false}
 use Rattle.paper.specs.Outcome.{passed, rows}
 use Rattle.leaves.specs.Leaves.{columns, leaf_at, spot_at}
 use Rattle.leaves.specs.Calls.{walked}
@@ -75,7 +74,7 @@ starts-requires c =
 pub stopped-requires-then-not-starts : goal.stopped-requires-then-not-starts
 stopped-requires-then-not-starts c =
     let a = c.args in
-    record { bits_nonzero = c.requires.bits_nonzero; highest_bound = c.requires.highest_bound; roots_len = c.requires.roots_len; roots_len_2 = c.requires.roots_len_2; fact = λ inside none. true≢false (sym (faultless_starts (2 ^ a.bits) a.highest a.k (spot_at c.loop-i.root c.loop-i.cell) ((leaf_at (columns a.roots.now a.levels.now a.positions.now)) c.loop-i.i) c.of_children-count.result c.of_children-cells.result c.if-highest-levels.false c.of_children-count.ensures c.of_children-cells.ensures none) ∙ sym c.starts.ensures ∙ not-true _ c.if-not-starts.true-raw) }
+    record { bits_nonzero = c.requires.bits_nonzero; highest_bound = c.requires.highest_bound; roots_len = c.requires.roots_len; roots_len_2 = c.requires.roots_len_2; fact = λ inside none. true≢false (sym (faultless_starts (2 ^ a.bits) a.highest a.k (spot_at c.loop-i.root c.loop-i.cell) ((leaf_at (columns a.roots.now a.levels.now a.positions.now)) c.loop-i.i) c.of_children-count.result c.of_children-cells.result c.if-highest-levels.false c.of_children-count.ensures c.of_children-cells.ensures none) ∙ sym c.starts.ensures ∙ c.if-not-starts.true) }
 
 pub returns-then-not-starts : goal.returns-then-not-starts
 returns-then-not-starts c = c.stopped-then-not-starts.ensures ∙ sym c.loop-i.invariant.1.1
@@ -87,7 +86,7 @@ pub overflow_add-cell : goal.overflow_add-cell
 overflow_add-cell c =
     let a = c.args in
     let m = columns a.roots.now a.levels.now a.positions.now in
-    omega (arith, ends_le (2 ^ a.bits) a.highest a.k (spot_at c.loop-i.root c.loop-i.cell) ((leaf_at m) c.loop-i.i) c.of_children-cells.result c.of_children-cells.ensures (starts_faultless (2 ^ a.bits) a.highest a.k (spot_at c.loop-i.root c.loop-i.cell) ((leaf_at m) c.loop-i.i) c.of_children-count.result c.of_children-cells.result c.if-highest-levels.false c.of_children-count.ensures c.of_children-cells.ensures c.loop-i.invariant.1.0 (sym c.starts.ensures ∙ not-false _ c.if-not-starts.false-raw)), root_cells a.bits a.highest c.requires.highest_bound)
+    omega (arith, ends_le (2 ^ a.bits) a.highest a.k (spot_at c.loop-i.root c.loop-i.cell) ((leaf_at m) c.loop-i.i) c.of_children-cells.result c.of_children-cells.ensures (starts_faultless (2 ^ a.bits) a.highest a.k (spot_at c.loop-i.root c.loop-i.cell) ((leaf_at m) c.loop-i.i) c.of_children-count.result c.of_children-cells.result c.if-highest-levels.false c.of_children-count.ensures c.of_children-cells.ensures c.loop-i.invariant.1.0 (sym c.starts.ensures ∙ c.if-not-starts.false)), root_cells a.bits a.highest c.requires.highest_bound)
 
 pub loop-i-smaller-then-cell-whole : goal.loop-i-smaller-then-cell-whole
 loop-i-smaller-then-cell-whole c = omega arith
@@ -96,7 +95,7 @@ pub loop-i-preserved-then-cell-whole : goal.loop-i-preserved-then-cell-whole
 loop-i-preserved-then-cell-whole c =
     let a = c.args in
     let m = columns a.roots.now a.levels.now a.positions.now in
-    (omega arith, (c.loop-i.invariant.1.0, c.loop-i.invariant.1.1 ∙ walk_within (2 ^ a.bits) a.highest a.k passed (leaf_at m) (length a.roots.now) c.loop-i.i (spot_at c.loop-i.root c.loop-i.cell) (omega arith) (starts_faultless (2 ^ a.bits) a.highest a.k (spot_at c.loop-i.root c.loop-i.cell) ((leaf_at m) c.loop-i.i) c.of_children-count.result c.of_children-cells.result c.if-highest-levels.false c.of_children-count.ensures c.of_children-cells.ensures c.loop-i.invariant.1.0 (sym c.starts.ensures ∙ not-false _ c.if-not-starts.false-raw)) c.of_children-cells.result c.of_children-cells.ensures (λ e. c.if-cell-whole.true (e ∙ sym (whole_root a.bits a.highest c.requires.highest_bound)))))
+    (omega arith, (c.loop-i.invariant.1.0, c.loop-i.invariant.1.1 ∙ walk_within (2 ^ a.bits) a.highest a.k passed (leaf_at m) (length a.roots.now) c.loop-i.i (spot_at c.loop-i.root c.loop-i.cell) (omega arith) (starts_faultless (2 ^ a.bits) a.highest a.k (spot_at c.loop-i.root c.loop-i.cell) ((leaf_at m) c.loop-i.i) c.of_children-count.result c.of_children-cells.result c.if-highest-levels.false c.of_children-count.ensures c.of_children-cells.ensures c.loop-i.invariant.1.0 (sym c.starts.ensures ∙ c.if-not-starts.false)) c.of_children-cells.result c.of_children-cells.ensures (λ e. c.if-cell-whole.true (e ∙ sym (whole_root a.bits a.highest c.requires.highest_bound)))))
 
 pub overflow_add-root : goal.overflow_add-root
 overflow_add-root c =
@@ -111,7 +110,7 @@ pub returns-then-root-k : goal.returns-then-root-k
 returns-then-root-k c =
     let a = c.args in
     let m = columns a.roots.now a.levels.now a.positions.now in
-    c.stopped-then-root-k.ensures ∙ sym (c.loop-i.invariant.1.1 ∙ walk_last (2 ^ a.bits) a.highest a.k passed (leaf_at m) (length a.roots.now) c.loop-i.i (spot_at c.loop-i.root c.loop-i.cell) (omega arith) (starts_faultless (2 ^ a.bits) a.highest a.k (spot_at c.loop-i.root c.loop-i.cell) ((leaf_at m) c.loop-i.i) c.of_children-count.result c.of_children-cells.result c.if-highest-levels.false c.of_children-count.ensures c.of_children-cells.ensures c.loop-i.invariant.1.0 (sym c.starts.ensures ∙ not-false _ c.if-not-starts.false-raw)) c.of_children-cells.result c.of_children-cells.ensures (c.if-cell-whole.false ∙ (whole_root a.bits a.highest c.requires.highest_bound)))
+    c.stopped-then-root-k.ensures ∙ sym (c.loop-i.invariant.1.1 ∙ walk_last (2 ^ a.bits) a.highest a.k passed (leaf_at m) (length a.roots.now) c.loop-i.i (spot_at c.loop-i.root c.loop-i.cell) (omega arith) (starts_faultless (2 ^ a.bits) a.highest a.k (spot_at c.loop-i.root c.loop-i.cell) ((leaf_at m) c.loop-i.i) c.of_children-count.result c.of_children-cells.result c.if-highest-levels.false c.of_children-count.ensures c.of_children-cells.ensures c.loop-i.invariant.1.0 (sym c.starts.ensures ∙ c.if-not-starts.false)) c.of_children-cells.result c.of_children-cells.ensures (c.if-cell-whole.false ∙ (whole_root a.bits a.highest c.requires.highest_bound)))
 
 pub loop-i-smaller : goal.loop-i-smaller
 loop-i-smaller c = omega arith
@@ -121,7 +120,7 @@ loop-i-preserved c =
     let a = c.args in
     let m = columns a.roots.now a.levels.now a.positions.now in
     let under : c.loop-i.root + 1 < a.k = omega (arith, c.loop-i.invariant.1.0, c.if-root-k.false) in
-    (omega arith, (under, c.loop-i.invariant.1.1 ∙ walk_last (2 ^ a.bits) a.highest a.k passed (leaf_at m) (length a.roots.now) c.loop-i.i (spot_at c.loop-i.root c.loop-i.cell) (omega arith) (starts_faultless (2 ^ a.bits) a.highest a.k (spot_at c.loop-i.root c.loop-i.cell) ((leaf_at m) c.loop-i.i) c.of_children-count.result c.of_children-cells.result c.if-highest-levels.false c.of_children-count.ensures c.of_children-cells.ensures c.loop-i.invariant.1.0 (sym c.starts.ensures ∙ not-false _ c.if-not-starts.false-raw)) c.of_children-cells.result c.of_children-cells.ensures (c.if-cell-whole.false ∙ (whole_root a.bits a.highest c.requires.highest_bound))))
+    (omega arith, (under, c.loop-i.invariant.1.1 ∙ walk_last (2 ^ a.bits) a.highest a.k passed (leaf_at m) (length a.roots.now) c.loop-i.i (spot_at c.loop-i.root c.loop-i.cell) (omega arith) (starts_faultless (2 ^ a.bits) a.highest a.k (spot_at c.loop-i.root c.loop-i.cell) ((leaf_at m) c.loop-i.i) c.of_children-count.result c.of_children-cells.result c.if-highest-levels.false c.of_children-count.ensures c.of_children-cells.ensures c.loop-i.invariant.1.0 (sym c.starts.ensures ∙ c.if-not-starts.false)) c.of_children-cells.result c.of_children-cells.ensures (c.if-cell-whole.false ∙ (whole_root a.bits a.highest c.requires.highest_bound))))
 
 pub stopped-requires-2 : goal.stopped-requires-2
 stopped-requires-2 c =

@@ -2,7 +2,7 @@
 use mathlib.Core.Path.{◌∙◌, sym}
 use Prim.Native.Nat.{◌+◌}
 use native.Mathlib.Omega.{arith}
-use borrow.Author.Tests.{le-leb, lt-leb, not-true, not-false}
+use borrow.Author.Tests.{le-leb, lt-leb}
 use Rattle.columns.proofs.Stretches.{over_word, in_word, and_more}
 use Rattle.columns.proofs.stretch.fits.Goals as goal
 
@@ -16,7 +16,7 @@ returns-then-not-within c =
     let a = c.args in
     simp (
       le-leb (a.position + a.count) 18446744073709551615 (in_word a.position a.count (omega (arith, c.ranges.position)) c.if-position-count.false),
-      sym c.within.ensures ∙ not-true c.within.result c.if-not-within.true-raw,
+      sym c.within.ensures ∙ c.if-not-within.true,
     )
 
 pub returns-then-not-within-2 : goal.returns-then-not-within-2
@@ -24,13 +24,13 @@ returns-then-not-within-2 c =
     let a = c.args in
     simp (
       le-leb (a.position + a.count) 18446744073709551615 (in_word a.position a.count (omega (arith, c.ranges.position)) c.if-position-count.false),
-      sym c.within.ensures ∙ not-false c.within.result c.if-not-within.false-raw,
-      sym c.within-2.ensures ∙ not-true c.within-2.result c.if-not-within-2.true-raw,
+      sym c.within.ensures ∙ c.if-not-within.false,
+      sym c.within-2.ensures ∙ c.if-not-within-2.true,
     )
 
 pub returns : goal.returns
 returns c =
     let a = c.args in
     and_more (le-leb (a.position + a.count) 18446744073709551615 (in_word a.position a.count (omega (arith, c.ranges.position)) c.if-position-count.false))
-    (and_more (sym c.within.ensures ∙ not-false c.within.result c.if-not-within.false-raw)
-    (and_more (sym c.within-2.ensures ∙ not-false c.within-2.result c.if-not-within-2.false-raw) c.within-3.ensures))
+    (and_more (sym c.within.ensures ∙ c.if-not-within.false)
+    (and_more (sym c.within-2.ensures ∙ c.if-not-within-2.false) c.within-3.ensures))

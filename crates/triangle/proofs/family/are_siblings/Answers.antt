@@ -5,7 +5,6 @@ use mathlib.Core.Bool.{true, false}
 use Prim.Native.Nat.{ℕ, ◌-◌, ◌≤◌, ◌<◌}
 use native.Mathlib.Omega.{arith}
 use lib.ListN.{length}
-use borrow.Author.Tests.{not-true, not-false}
 use Rattle.paper.specs.Outcome.{rows}
 use Rattle.paper.proofs.Scan.{scan_all}
 use Rattle.tree.specs.Words.{are_children}
@@ -90,7 +89,7 @@ returns-then-not-equals c =
     let i = c.loop-i.i in
     let parent = c.up-parent.result in
     let alike : triangle.same (triangle.child parent i) (element cs i) ≡ false =
-    sym (c.equals.ensures ∙ ap₂ triangle.same c.down.ensures c.row.ensures) ∙ not-true c.equals.result c.if-not-equals.true-raw in
+    sym (c.equals.ensures ∙ ap₂ triangle.same c.down.ensures c.row.ensures) ∙ c.if-not-equals.true in
     sym (c.loop-i.invariant.1 ∙ sibling_differs triangle (lawful 21) (element cs) parent 4 i c.loop-i-test.true alike)
 
 pub overflow_add-i : goal.overflow_add-i
@@ -107,7 +106,7 @@ loop-i-preserved c =
     let i = c.loop-i.i in
     let parent = c.up-parent.result in
     let alike : triangle.same (triangle.child parent i) (element cs i) ≡ true =
-    sym (c.equals.ensures ∙ ap₂ triangle.same c.down.ensures c.row.ensures) ∙ not-false c.equals.result c.if-not-equals.false-raw in
+    sym (c.equals.ensures ∙ ap₂ triangle.same c.down.ensures c.row.ensures) ∙ c.if-not-equals.false in
     (omega arith, c.loop-i.invariant.1 ∙ sibling_step triangle (lawful 21) (element cs) parent 4 i c.loop-i-test.true alike)
 
 pub returns : goal.returns
