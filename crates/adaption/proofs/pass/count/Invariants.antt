@@ -1,0 +1,14 @@
+-- `count` meets its contract: the turns before leaf i have made so many leaves. Assumes nothing.
+use Prim.Native.Nat.{◌-◌, ◌^◌}
+use lib.ListN.{length}
+use lib.Pow.{pow_pos}
+use Rattle.leaves.specs.Leaves.{columns, leaves}
+use Rattle.adaption.proofs.Passing.{Along}
+use Rattle.adaption.proofs.pass.count.Given as goal
+
+abbrev pub invariant-loop-i : goal.invariant-loop-i
+invariant-loop-i l =
+    Along (2 ^ l.bits) (pow_pos l.bits) (leaves (columns l.roots l.levels l.positions)) l.marks l.i l.size
+
+abbrev pub decreases-loop-i : goal.decreases-loop-i
+decreases-loop-i l = length l.roots - l.i

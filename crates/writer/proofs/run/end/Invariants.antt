@@ -1,0 +1,11 @@
+-- `end` meets its contract: each turn takes one leaf more of the level. Assumes nothing.
+use Prim.Native.Nat.{◌-◌}
+use lib.ListN.{length}
+use Rattle.writer.specs.Inner.{Alike}
+use Rattle.writer.proofs.run.end.Given as goal
+
+abbrev pub invariant-loop-j : goal.invariant-loop-j
+invariant-loop-j l = Alike l.levels l.i l.j
+
+abbrev pub decreases-loop-j : goal.decreases-loop-j
+decreases-loop-j l = length l.levels - l.j
