@@ -1,18 +1,17 @@
 -- `count` meets its contract: the turns before leaf i have made so many leaves. Assumes nothing.
-use mathlib.Core.Path.{refl, ◌∙◌, sym}
-use mathlib.Core.Logic.{⊎_elim}
+use mathlib.Core.Path.{◌≡◌, refl, ◌∙◌, sym}
 use Prim.Native.Nat.{◌-◌, ◌^◌, ◌<◌}
 use native.Mathlib.Omega.{arith}
 use lib.ListN.{length}
 use lib.Pow.{pow_pos}
-use borrow.Author.Tests.{not-true, not-false}
 use Rattle.leaves.specs.Leaves.{columns, leaves}
 use Rattle.leaves.proofs.Columns.{leaves_length}
-use Rattle.adaption.specs.Inner.{stride}
+use Rattle.adaption.specs.Inner.{stride, turn}
 use Rattle.adaption.proofs.Width.{few_children}
 use Rattle.adaption.proofs.Beginning.{turn_none, turn_family, turn_mark}
 use Rattle.adaption.proofs.Passing.{along_none, along_size, along_next, along_few, stride_pos}
 use Rattle.adaption.proofs.pass.count.Goals as goal
+use Rattle.adaption.proofs.pass.count.Goals.{then-t-eq2+then-not-begins, then-t-eq2+else-not-begins, else-t-eq2}
 
 pub loop-i-init : goal.loop-i-init
 loop-i-init c =
@@ -37,12 +36,11 @@ overflow_add-size c =
     let now_at = c.loop-i in
     let inside = c.loop-i-test.true in
     let t = c.if-t-eq2.t in
-    let is_turn = ⊎_elim
-    (λ w. turn_none (2 ^ a.bits) (pow_pos a.bits) cs a.marks.now now_at.i inside t w.0.taken (sym w.1.ensures ∙ not-true w.1.result w.2.taken) w.3)
-    (⊎_elim
-    (λ w. turn_family (2 ^ a.bits) (pow_pos a.bits) cs a.marks.now now_at.i inside t w.0.taken (sym w.1.ensures ∙ not-false w.1.result w.2.left) w.3)
-    (λ w. turn_mark (2 ^ a.bits) (pow_pos a.bits) cs a.marks.now now_at.i inside t ready w.0.left w.1))
-    c.if-t-eq2.branch in
+    let is_turn : t ≡ turn (2 ^ a.bits) (leaves cs) a.marks.now now_at.i = elim c.if-t-eq2.branch [
+      | then-t-eq2+then-not-begins w ↦ turn_none (2 ^ a.bits) (pow_pos a.bits) cs a.marks.now now_at.i inside t w.if-t-eq2.true (sym w.begins.ensures ∙ w.if-not-begins.true) w.t-is
+      | then-t-eq2+else-not-begins w ↦ turn_family (2 ^ a.bits) (pow_pos a.bits) cs a.marks.now now_at.i inside t w.if-t-eq2.true (sym w.begins.ensures ∙ w.if-not-begins.false) w.t-is
+      | else-t-eq2 w ↦ turn_mark (2 ^ a.bits) (pow_pos a.bits) cs a.marks.now now_at.i inside t ready w.if-t-eq2.false w.t-is
+    ] in
     let in_list : now_at.i < length (leaves cs) = omega (arith, inside, leaves_length cs) in
     let next = along_next (2 ^ a.bits) (pow_pos a.bits) (leaves cs) a.marks.now now_at.i now_at.size now_at.invariant in_list
     t (stride (2 ^ a.bits) t) c.made-size.result is_turn refl c.made-size.ensures in
@@ -63,12 +61,11 @@ overflow_add-i c =
     let now_at = c.loop-i in
     let inside = c.loop-i-test.true in
     let t = c.if-t-eq2.t in
-    let is_turn = ⊎_elim
-    (λ w. turn_none (2 ^ a.bits) (pow_pos a.bits) cs a.marks.now now_at.i inside t w.0.taken (sym w.1.ensures ∙ not-true w.1.result w.2.taken) w.3)
-    (⊎_elim
-    (λ w. turn_family (2 ^ a.bits) (pow_pos a.bits) cs a.marks.now now_at.i inside t w.0.taken (sym w.1.ensures ∙ not-false w.1.result w.2.left) w.3)
-    (λ w. turn_mark (2 ^ a.bits) (pow_pos a.bits) cs a.marks.now now_at.i inside t ready w.0.left w.1))
-    c.if-t-eq2.branch in
+    let is_turn : t ≡ turn (2 ^ a.bits) (leaves cs) a.marks.now now_at.i = elim c.if-t-eq2.branch [
+      | then-t-eq2+then-not-begins w ↦ turn_none (2 ^ a.bits) (pow_pos a.bits) cs a.marks.now now_at.i inside t w.if-t-eq2.true (sym w.begins.ensures ∙ w.if-not-begins.true) w.t-is
+      | then-t-eq2+else-not-begins w ↦ turn_family (2 ^ a.bits) (pow_pos a.bits) cs a.marks.now now_at.i inside t w.if-t-eq2.true (sym w.begins.ensures ∙ w.if-not-begins.false) w.t-is
+      | else-t-eq2 w ↦ turn_mark (2 ^ a.bits) (pow_pos a.bits) cs a.marks.now now_at.i inside t ready w.if-t-eq2.false w.t-is
+    ] in
     let in_list : now_at.i < length (leaves cs) = omega (arith, inside, leaves_length cs) in
     let next = along_next (2 ^ a.bits) (pow_pos a.bits) (leaves cs) a.marks.now now_at.i now_at.size now_at.invariant in_list
     t c.taken-i.result c.made-size.result is_turn c.taken-i.ensures c.made-size.ensures in
@@ -88,12 +85,11 @@ loop-i-preserved c =
     let now_at = c.loop-i in
     let inside = c.loop-i-test.true in
     let t = c.if-t-eq2.t in
-    let is_turn = ⊎_elim
-    (λ w. turn_none (2 ^ a.bits) (pow_pos a.bits) cs a.marks.now now_at.i inside t w.0.taken (sym w.1.ensures ∙ not-true w.1.result w.2.taken) w.3)
-    (⊎_elim
-    (λ w. turn_family (2 ^ a.bits) (pow_pos a.bits) cs a.marks.now now_at.i inside t w.0.taken (sym w.1.ensures ∙ not-false w.1.result w.2.left) w.3)
-    (λ w. turn_mark (2 ^ a.bits) (pow_pos a.bits) cs a.marks.now now_at.i inside t ready w.0.left w.1))
-    c.if-t-eq2.branch in
+    let is_turn : t ≡ turn (2 ^ a.bits) (leaves cs) a.marks.now now_at.i = elim c.if-t-eq2.branch [
+      | then-t-eq2+then-not-begins w ↦ turn_none (2 ^ a.bits) (pow_pos a.bits) cs a.marks.now now_at.i inside t w.if-t-eq2.true (sym w.begins.ensures ∙ w.if-not-begins.true) w.t-is
+      | then-t-eq2+else-not-begins w ↦ turn_family (2 ^ a.bits) (pow_pos a.bits) cs a.marks.now now_at.i inside t w.if-t-eq2.true (sym w.begins.ensures ∙ w.if-not-begins.false) w.t-is
+      | else-t-eq2 w ↦ turn_mark (2 ^ a.bits) (pow_pos a.bits) cs a.marks.now now_at.i inside t ready w.if-t-eq2.false w.t-is
+    ] in
     let in_list : now_at.i < length (leaves cs) = omega (arith, inside, leaves_length cs) in
     along_next (2 ^ a.bits) (pow_pos a.bits) (leaves cs) a.marks.now now_at.i now_at.size now_at.invariant in_list
     t c.taken-i.result c.made-size.result is_turn c.taken-i.ensures c.made-size.ensures

@@ -1,19 +1,18 @@
 -- `write` meets its contract: the turns before leaf i have written the first leaves of the result. Assumes nothing.
-use mathlib.Core.Path.{refl, ◌∙◌, sym}
-use mathlib.Core.Logic.{⊎_elim}
+use mathlib.Core.Path.{◌≡◌, refl, ◌∙◌, sym}
 use Prim.Native.Nat.{◌-◌, ◌^◌, ◌<◌}
 use native.Mathlib.Omega.{arith}
 use lib.ListN.{length}
 use lib.Pow.{pow_pos}
-use borrow.Author.Tests.{not-true, not-false}
 use Rattle.leaves.specs.Leaves.{columns, leaf_at, leaves}
 use Rattle.leaves.proofs.Columns.{leaves_length, nth_leaves}
-use Rattle.adaption.specs.Inner.{stride}
+use Rattle.adaption.specs.Inner.{stride, turn}
 use Rattle.adaption.proofs.Width.{few_children}
 use Rattle.adaption.proofs.Beginning.{turn_none, turn_family, turn_mark}
 use Rattle.adaption.proofs.Passing.{underway_none, underway_next, underway_all, along_next, along_few, room_for, roots_stay, levels_stay, positions_stay, stride_pos}
 use Rattle.adaption.proofs.Fitting.{level_below, level_above, position_below, positions_fit}
 use Rattle.adaption.proofs.pass.write.Goals as goal
+use Rattle.adaption.proofs.pass.write.Goals.{then-t-eq2+then-not-begins, then-t-eq2+else-not-begins, else-t-eq2}
 
 pub loop-i-init : goal.loop-i-init
 loop-i-init c =
@@ -40,12 +39,11 @@ level-level-requires c =
     let now_at = c.loop-i in
     let inside = c.loop-i-test.true in
     let t = c.if-t-eq2.t in
-    let is_turn = ⊎_elim
-    (λ w. turn_none (2 ^ a.bits) (pow_pos a.bits) cs a.marks.now now_at.i inside t w.0.taken (sym w.1.ensures ∙ not-true w.1.result w.2.taken) w.3)
-    (⊎_elim
-    (λ w. turn_family (2 ^ a.bits) (pow_pos a.bits) cs a.marks.now now_at.i inside t w.0.taken (sym w.1.ensures ∙ not-false w.1.result w.2.left) w.3)
-    (λ w. turn_mark (2 ^ a.bits) (pow_pos a.bits) cs a.marks.now now_at.i inside t ready w.0.left w.1))
-    c.if-t-eq2.branch in (
+    let is_turn : t ≡ turn (2 ^ a.bits) (leaves cs) a.marks.now now_at.i = elim c.if-t-eq2.branch [
+      | then-t-eq2+then-not-begins w ↦ turn_none (2 ^ a.bits) (pow_pos a.bits) cs a.marks.now now_at.i inside t w.if-t-eq2.true (sym w.begins.ensures ∙ w.if-not-begins.true) w.t-is
+      | then-t-eq2+else-not-begins w ↦ turn_family (2 ^ a.bits) (pow_pos a.bits) cs a.marks.now now_at.i inside t w.if-t-eq2.true (sym w.begins.ensures ∙ w.if-not-begins.false) w.t-is
+      | else-t-eq2 w ↦ turn_mark (2 ^ a.bits) (pow_pos a.bits) cs a.marks.now now_at.i inside t ready w.if-t-eq2.false w.t-is
+    ] in (
       level_below (2 ^ a.bits) (pow_pos a.bits) cs a.marks.now ready now_at.i inside now_at.invariant.along.clear t is_turn,
       level_above (2 ^ a.bits) (pow_pos a.bits) cs a.marks.now ready now_at.i inside now_at.invariant.along.clear t is_turn,
     )
@@ -62,12 +60,11 @@ position-position-requires c =
     let now_at = c.loop-i in
     let inside = c.loop-i-test.true in
     let t = c.if-t-eq2.t in
-    let is_turn = ⊎_elim
-    (λ w. turn_none (2 ^ a.bits) (pow_pos a.bits) cs a.marks.now now_at.i inside t w.0.taken (sym w.1.ensures ∙ not-true w.1.result w.2.taken) w.3)
-    (⊎_elim
-    (λ w. turn_family (2 ^ a.bits) (pow_pos a.bits) cs a.marks.now now_at.i inside t w.0.taken (sym w.1.ensures ∙ not-false w.1.result w.2.left) w.3)
-    (λ w. turn_mark (2 ^ a.bits) (pow_pos a.bits) cs a.marks.now now_at.i inside t ready w.0.left w.1))
-    c.if-t-eq2.branch in
+    let is_turn : t ≡ turn (2 ^ a.bits) (leaves cs) a.marks.now now_at.i = elim c.if-t-eq2.branch [
+      | then-t-eq2+then-not-begins w ↦ turn_none (2 ^ a.bits) (pow_pos a.bits) cs a.marks.now now_at.i inside t w.if-t-eq2.true (sym w.begins.ensures ∙ w.if-not-begins.true) w.t-is
+      | then-t-eq2+else-not-begins w ↦ turn_family (2 ^ a.bits) (pow_pos a.bits) cs a.marks.now now_at.i inside t w.if-t-eq2.true (sym w.begins.ensures ∙ w.if-not-begins.false) w.t-is
+      | else-t-eq2 w ↦ turn_mark (2 ^ a.bits) (pow_pos a.bits) cs a.marks.now now_at.i inside t ready w.if-t-eq2.false w.t-is
+    ] in
     (c.requires.bits_bound, position_below (2 ^ a.bits) (pow_pos a.bits) cs a.marks.now ready now_at.i inside now_at.invariant.along.clear t is_turn)
 
 pub bounds-roots-i : goal.bounds-roots-i
@@ -81,12 +78,11 @@ lay-requires c =
     let now_at = c.loop-i in
     let inside = c.loop-i-test.true in
     let t = c.if-t-eq2.t in
-    let is_turn = ⊎_elim
-    (λ w. turn_none (2 ^ a.bits) (pow_pos a.bits) cs a.marks.now now_at.i inside t w.0.taken (sym w.1.ensures ∙ not-true w.1.result w.2.taken) w.3)
-    (⊎_elim
-    (λ w. turn_family (2 ^ a.bits) (pow_pos a.bits) cs a.marks.now now_at.i inside t w.0.taken (sym w.1.ensures ∙ not-false w.1.result w.2.left) w.3)
-    (λ w. turn_mark (2 ^ a.bits) (pow_pos a.bits) cs a.marks.now now_at.i inside t ready w.0.left w.1))
-    c.if-t-eq2.branch in
+    let is_turn : t ≡ turn (2 ^ a.bits) (leaves cs) a.marks.now now_at.i = elim c.if-t-eq2.branch [
+      | then-t-eq2+then-not-begins w ↦ turn_none (2 ^ a.bits) (pow_pos a.bits) cs a.marks.now now_at.i inside t w.if-t-eq2.true (sym w.begins.ensures ∙ w.if-not-begins.true) w.t-is
+      | then-t-eq2+else-not-begins w ↦ turn_family (2 ^ a.bits) (pow_pos a.bits) cs a.marks.now now_at.i inside t w.if-t-eq2.true (sym w.begins.ensures ∙ w.if-not-begins.false) w.t-is
+      | else-t-eq2 w ↦ turn_mark (2 ^ a.bits) (pow_pos a.bits) cs a.marks.now now_at.i inside t ready w.if-t-eq2.false w.t-is
+    ] in
     let fit = positions_fit (2 ^ a.bits) (pow_pos a.bits) cs a.marks.now ready now_at.i inside now_at.invariant.along.clear t is_turn
     c.position-position.result c.position-position.ensures in record {
       bits_bound = c.requires.bits_bound;
@@ -107,12 +103,11 @@ overflow_add-size c =
     let now_at = c.loop-i in
     let inside = c.loop-i-test.true in
     let t = c.if-t-eq2.t in
-    let is_turn = ⊎_elim
-    (λ w. turn_none (2 ^ a.bits) (pow_pos a.bits) cs a.marks.now now_at.i inside t w.0.taken (sym w.1.ensures ∙ not-true w.1.result w.2.taken) w.3)
-    (⊎_elim
-    (λ w. turn_family (2 ^ a.bits) (pow_pos a.bits) cs a.marks.now now_at.i inside t w.0.taken (sym w.1.ensures ∙ not-false w.1.result w.2.left) w.3)
-    (λ w. turn_mark (2 ^ a.bits) (pow_pos a.bits) cs a.marks.now now_at.i inside t ready w.0.left w.1))
-    c.if-t-eq2.branch in
+    let is_turn : t ≡ turn (2 ^ a.bits) (leaves cs) a.marks.now now_at.i = elim c.if-t-eq2.branch [
+      | then-t-eq2+then-not-begins w ↦ turn_none (2 ^ a.bits) (pow_pos a.bits) cs a.marks.now now_at.i inside t w.if-t-eq2.true (sym w.begins.ensures ∙ w.if-not-begins.true) w.t-is
+      | then-t-eq2+else-not-begins w ↦ turn_family (2 ^ a.bits) (pow_pos a.bits) cs a.marks.now now_at.i inside t w.if-t-eq2.true (sym w.begins.ensures ∙ w.if-not-begins.false) w.t-is
+      | else-t-eq2 w ↦ turn_mark (2 ^ a.bits) (pow_pos a.bits) cs a.marks.now now_at.i inside t ready w.if-t-eq2.false w.t-is
+    ] in
     let in_list : now_at.i < length (leaves cs) = omega (arith, inside, leaves_length cs) in
     let next = along_next (2 ^ a.bits) (pow_pos a.bits) (leaves cs) a.marks.now now_at.i now_at.size now_at.invariant.along in_list
     t (stride (2 ^ a.bits) t) c.made-size.result is_turn refl c.made-size.ensures in
@@ -134,12 +129,11 @@ overflow_add-i c =
     let now_at = c.loop-i in
     let inside = c.loop-i-test.true in
     let t = c.if-t-eq2.t in
-    let is_turn = ⊎_elim
-    (λ w. turn_none (2 ^ a.bits) (pow_pos a.bits) cs a.marks.now now_at.i inside t w.0.taken (sym w.1.ensures ∙ not-true w.1.result w.2.taken) w.3)
-    (⊎_elim
-    (λ w. turn_family (2 ^ a.bits) (pow_pos a.bits) cs a.marks.now now_at.i inside t w.0.taken (sym w.1.ensures ∙ not-false w.1.result w.2.left) w.3)
-    (λ w. turn_mark (2 ^ a.bits) (pow_pos a.bits) cs a.marks.now now_at.i inside t ready w.0.left w.1))
-    c.if-t-eq2.branch in
+    let is_turn : t ≡ turn (2 ^ a.bits) (leaves cs) a.marks.now now_at.i = elim c.if-t-eq2.branch [
+      | then-t-eq2+then-not-begins w ↦ turn_none (2 ^ a.bits) (pow_pos a.bits) cs a.marks.now now_at.i inside t w.if-t-eq2.true (sym w.begins.ensures ∙ w.if-not-begins.true) w.t-is
+      | then-t-eq2+else-not-begins w ↦ turn_family (2 ^ a.bits) (pow_pos a.bits) cs a.marks.now now_at.i inside t w.if-t-eq2.true (sym w.begins.ensures ∙ w.if-not-begins.false) w.t-is
+      | else-t-eq2 w ↦ turn_mark (2 ^ a.bits) (pow_pos a.bits) cs a.marks.now now_at.i inside t ready w.if-t-eq2.false w.t-is
+    ] in
     let in_list : now_at.i < length (leaves cs) = omega (arith, inside, leaves_length cs) in
     let next = along_next (2 ^ a.bits) (pow_pos a.bits) (leaves cs) a.marks.now now_at.i now_at.size now_at.invariant.along in_list
     t c.taken-i.result c.made-size.result is_turn c.taken-i.ensures c.made-size.ensures in
@@ -159,12 +153,11 @@ loop-i-preserved c =
     let now_at = c.loop-i in
     let inside = c.loop-i-test.true in
     let t = c.if-t-eq2.t in
-    let is_turn = ⊎_elim
-    (λ w. turn_none (2 ^ a.bits) (pow_pos a.bits) cs a.marks.now now_at.i inside t w.0.taken (sym w.1.ensures ∙ not-true w.1.result w.2.taken) w.3)
-    (⊎_elim
-    (λ w. turn_family (2 ^ a.bits) (pow_pos a.bits) cs a.marks.now now_at.i inside t w.0.taken (sym w.1.ensures ∙ not-false w.1.result w.2.left) w.3)
-    (λ w. turn_mark (2 ^ a.bits) (pow_pos a.bits) cs a.marks.now now_at.i inside t ready w.0.left w.1))
-    c.if-t-eq2.branch in
+    let is_turn : t ≡ turn (2 ^ a.bits) (leaves cs) a.marks.now now_at.i = elim c.if-t-eq2.branch [
+      | then-t-eq2+then-not-begins w ↦ turn_none (2 ^ a.bits) (pow_pos a.bits) cs a.marks.now now_at.i inside t w.if-t-eq2.true (sym w.begins.ensures ∙ w.if-not-begins.true) w.t-is
+      | then-t-eq2+else-not-begins w ↦ turn_family (2 ^ a.bits) (pow_pos a.bits) cs a.marks.now now_at.i inside t w.if-t-eq2.true (sym w.begins.ensures ∙ w.if-not-begins.false) w.t-is
+      | else-t-eq2 w ↦ turn_mark (2 ^ a.bits) (pow_pos a.bits) cs a.marks.now now_at.i inside t ready w.if-t-eq2.false w.t-is
+    ] in
     underway_next (2 ^ a.bits) (pow_pos a.bits) (leaves cs) a.marks.now (columns a.new_roots.now a.new_levels.now a.new_positions.now) now_at.i now_at.size (columns now_at.new_roots now_at.new_levels now_at.new_positions) now_at.invariant
     c.requires.room (omega (arith, inside, leaves_length cs)) _ (leaf_at cs now_at.i)
     t c.level-level.result c.position-position.result c.taken-i.result c.made-size.result
