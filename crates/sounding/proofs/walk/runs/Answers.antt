@@ -44,7 +44,7 @@ end_from-come-requires c =
     let l = c.loop-kept in
     let going = l.invariant.1 in
     let found = sym c.run_at.ensures ∙ ap run_of c.in-Is.is in
-    let t = run_taken (2 ^ a.bits) a.highest a.k a.bytes.now (walk_at l.auto l.leaves l.before (spot_of l.come) l.at) _ found in record {
+    let t = run_taken (2 ^ a.bits) a.highest a.k a.bytes.now (walk_at l.kept l.leaves l.before (spot_of l.come) l.at) _ found in record {
       standing = record {
         some_bits = c.requires.bits_nonzero;
         narrow = c.requires.highest_bound;
@@ -60,17 +60,17 @@ overflow_add-leaves c =
     let a = c.args in
     let l = c.loop-kept in
     let found = sym c.run_at.ensures ∙ ap run_of c.in-Is.is in
-    let t = run_taken (2 ^ a.bits) a.highest a.k a.bytes.now (walk_at l.auto l.leaves l.before (spot_of l.come) l.at) _ found in
+    let t = run_taken (2 ^ a.bits) a.highest a.k a.bytes.now (walk_at l.kept l.leaves l.before (spot_of l.come) l.at) _ found in
     omega (arith, t.few)
 
 pub returns-in-Refused : goal.returns-in-Refused
 returns-in-Refused c =
     let a = c.args in
     let l = c.loop-kept in
-    let w = walk_at l.auto l.leaves l.before (spot_of l.come) l.at in
+    let w = walk_at l.kept l.leaves l.before (spot_of l.come) l.at in
     let found = sym c.run_at.ensures ∙ ap run_of c.in-Refused.is in
     told _ _ l.before
-    (going_stops (2 ^ a.bits) a.highest a.k (pow_pos a.bits) a.bytes.now a.runs a.at (a.runs - l.auto) w l.invariant.1
+    (going_stops (2 ^ a.bits) a.highest a.k (pow_pos a.bits) a.bytes.now a.runs a.at (a.runs - l.kept) w l.invariant.1
     (omega (arith, c.loop-kept-test.true)) _ _ found)
     (λ none. absurd (omega (arith, run_fault (2 ^ a.bits) a.highest a.bytes.now a.k w _ _ found)))
 
@@ -88,7 +88,7 @@ loop-kept-preserved c =
     let inside = c.loop-kept-test.true in
     let found = sym c.run_at.ensures ∙ ap run_of c.in-Is.is in (
       omega (arith, inside),
-      going_next (2 ^ a.bits) a.highest a.k (pow_pos a.bits) a.bytes.now a.runs a.at l.auto l.leaves l.before (spot_of l.come) l.at
+      going_next (2 ^ a.bits) a.highest a.k (pow_pos a.bits) a.bytes.now a.runs a.at l.kept l.leaves l.before (spot_of l.come) l.at
           l.invariant.1 inside _ found _ c.end_from-come.ensures,
     )
 
@@ -96,8 +96,8 @@ pub returns : goal.returns
 returns c =
     let a = c.args in
     let l = c.loop-kept in
-    let w = walk_at l.auto l.leaves l.before (spot_of l.come) l.at in
+    let w = walk_at l.kept l.leaves l.before (spot_of l.come) l.at in
     let end =
-    going_ends (2 ^ a.bits) a.highest a.k (pow_pos a.bits) a.bytes.now a.runs a.at (a.runs - l.auto) w l.invariant.1
+    going_ends (2 ^ a.bits) a.highest a.k (pow_pos a.bits) a.bytes.now a.runs a.at (a.runs - l.kept) w l.invariant.1
     (omega (arith, c.loop-kept-test.false)) in
     told _ _ l.before (end.0, end.1 ∙ sym c.ended.ensures.stands) c.ended.ensures.unplaced

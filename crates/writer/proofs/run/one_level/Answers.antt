@@ -1,10 +1,10 @@
 -- `one_level` meets its contract: while it is true, the levels before t are the one given. Assumes nothing.
 use mathlib.Core.Path.{◌≡◌, ◌∙◌, sym}
-use mathlib.Core.Logic.{⊎_elim}
 use Prim.Native.Nat.{◌-◌}
 use native.Mathlib.Omega.{arith}
 use Rattle.writer.proofs.Ending.{one_more, one_other}
 use Rattle.writer.proofs.run.one_level.Goals as goal
+use Rattle.writer.proofs.run.one_level.Goals.{then-levels-from, else-levels-from}
 
 pub loop-t-init : goal.loop-t-init
 loop-t-init c = (omega arith, λ still u none. absurd (omega arith))
@@ -22,10 +22,10 @@ pub loop-t-preserved : goal.loop-t-preserved
 loop-t-preserved c =
     let a = c.args in (
       omega arith,
-      ⊎_elim
-          (λ w. one_other a.levels.now a.level a.from c.loop-t.t c.if-levels-from.same w.1)
-          (λ w still. one_more a.levels.now a.level a.from c.loop-t.t (c.loop-t.invariant.1 (sym w.1 ∙ still)) w.0.left)
-          c.if-levels-from.branch,
+      elim c.if-levels-from.branch [
+          then-levels-from w ↦ one_other a.levels.now a.level a.from c.loop-t.t c.if-levels-from.same w.same-is
+        | else-levels-from w ↦ λ still. one_more a.levels.now a.level a.from c.loop-t.t (c.loop-t.invariant.1 (sym w.same-is ∙ still)) w.if-levels-from.false
+        ],
     )
 
 pub returns : goal.returns
