@@ -5,21 +5,21 @@ use Rattle.text.proofs.first_line.Goals as goal
 
 pub entry-at-requires-6 : goal.entry-at-requires-6
 entry-at-requires-6 c =
-    omega (arith, c.entry-arg-6-1.ensures.1, c.entry-arg-8-1.ensures.1, c.entry-arg-10-1.ensures.1, c.slice_known-5-1.ensures.1, c.out-5-1.ensures.1)
+    omega (arith, c.entry-at.ensures.upper_bound, c.entry-at-2.ensures.upper_bound, c.entry-at-3.ensures.upper_bound, c.entry-at-4.ensures.upper_bound, c.entry-at-5.ensures.upper_bound)
 
 pub entry-requires : goal.entry-requires
 entry-requires c =
-    omega (arith, c.entry-at-2.ensures.upper_bound, c.entry-arg-9-1.ensures.1, c.entry-arg-11-1.ensures.1, c.entry-arg-13-1.ensures.1, c.slice_known-6-1.ensures.1, c.out-6-1.ensures.1)
+    omega (arith, c.entry-at.ensures.upper_bound, c.entry-at-2.ensures.upper_bound, c.entry-at-3.ensures.upper_bound, c.entry-at-4.ensures.upper_bound, c.entry-at-5.ensures.upper_bound, c.entry-at-6.ensures.upper_bound)
 
 pub shape_of-out : goal.shape_of-out
 shape_of-out c =
     put_length
-    (put_then c.entry-at-2.ensures.put (put_then c.entry-arg-9-1.ensures.0 (put_then c.entry-arg-11-1.ensures.0 (put_then c.entry-arg-13-1.ensures.0
-    (put_then c.slice_known-6-1.ensures.0 (put_then c.out-6-1.ensures.0 c.entry.ensures.put))))))
+    (put_then c.entry-at.ensures.put (put_then c.entry-at-2.ensures.put (put_then c.entry-at-3.ensures.put (put_then c.entry-at-4.ensures.put
+    (put_then c.entry-at-5.ensures.put (put_then c.entry-at-6.ensures.put c.entry.ensures.put))))))
 
 pub returns : goal.returns
 returns c =
     let put =
-    put_then c.entry-at-2.ensures.put (put_then c.entry-arg-9-1.ensures.0 (put_then c.entry-arg-11-1.ensures.0 (put_then c.entry-arg-13-1.ensures.0
-    (put_then c.slice_known-6-1.ensures.0 (put_then c.out-6-1.ensures.0 c.entry.ensures.put))))) in
-    record { put = put; upper_bound = omega (arith, c.entry-at-2.ensures.upper_bound, c.entry-arg-9-1.ensures.1, c.entry-arg-11-1.ensures.1, c.entry-arg-13-1.ensures.1, c.slice_known-6-1.ensures.1) }
+    put_then c.entry-at.ensures.put (put_then c.entry-at-2.ensures.put (put_then c.entry-at-3.ensures.put (put_then c.entry-at-4.ensures.put
+    (put_then c.entry-at-5.ensures.put (put_then c.entry-at-6.ensures.put c.entry.ensures.put))))) in
+    record { put = put; upper_bound = omega (arith, c.entry-at.ensures.upper_bound, c.entry-at-2.ensures.upper_bound, c.entry-at-3.ensures.upper_bound, c.entry-at-4.ensures.upper_bound, c.entry-at-5.ensures.upper_bound) }

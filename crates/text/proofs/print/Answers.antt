@@ -9,9 +9,9 @@ use Rattle.text.proofs.print.Goals as goal
 
 pub returns-in-Is : goal.returns-in-Is
 returns-in-Is c =
-    subst⁻¹ (λ (o : Outcome Form). Put (spelled o) 0 c.args.out.now c.share_lines.new.0 c.share_lines.result) (ap form_of c.in-Is.is)
+    subst⁻¹ (λ (o : Outcome Form). Put (spelled o) 0 c.args.out.now c.share_lines.new.out c.share_lines.result) (ap form_of c.in-Is.is)
     (put_then c.first_line-at.ensures.put c.share_lines.ensures)
 
 pub returns-in-Refused : goal.returns-in-Refused
 returns-in-Refused c =
-    subst⁻¹ (λ (o : Outcome Form). Put (spelled o) 0 c.args.out.now c.refusal.new.0 c.refusal.result) (ap form_of c.in-Refused.is) c.refusal.ensures
+    subst⁻¹ (λ (o : Outcome Form). Put (spelled o) 0 c.args.out.now c.refusal.new.out c.refusal.result) (ap form_of c.in-Refused.is) c.refusal.ensures

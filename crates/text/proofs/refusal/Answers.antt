@@ -4,4 +4,4 @@ use Rattle.text.proofs.refusal.Goals as goal
 
 pub returns : goal.returns
 returns c =
-    put_then c.out-1.ensures.0 c.entry.ensures.put
+    put_then c.entry-at.ensures.put c.entry.ensures.put
