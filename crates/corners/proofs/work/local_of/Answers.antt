@@ -1,0 +1,42 @@
+-- `local_of` meets its contract: an element's corners lie none or one side from its anchor, within the edge. Assumes nothing.
+use Prim.Native.Nat.{◌/◌, ◌%◌}
+use native.Mathlib.Nat.{mod-lt}
+use native.Mathlib.Omega.{arith}
+use lib.Dec.{lit<}
+use Rattle.corners.proofs.LocalCorners.{room_at, Spans, spans, found}
+use Rattle.corners.proofs.work.local_of.Goals as goal
+
+pub sides-s-requires : goal.sides-s-requires
+sides-s-requires c = ((room_at c.args.e c.side-h.result c.side-h.ensures c.requires.0).two_types, mod-lt c.args.corner (lit< tt))
+
+pub overflow_cast-s : goal.overflow_cast-s
+overflow_cast-s c = omega (arith, c.sides-s.ensures.narrow)
+
+-- what is known once the sides are
+reached : (c : tie.After_sides) → Spans c.before.before.args.e c.before.side.result (c.sides.result / 2) (c.sides.result % 2) (c.before.before.args.corner / 3)
+reached c =
+    let start = c.before.before in
+    let h = c.before.side in
+    spans start.args.e 1 h.result _ _ _ (omega (arith, h.ensures)) start.requires.0 (omega (arith, c.sides.ensures.narrow)) (omega arith) (omega (arith, start.requires.1))
+
+pub overflow_mul-x : goal.overflow_mul-x
+overflow_mul-x c = omega (arith, (reached c).step_x)
+
+pub overflow_add-x : goal.overflow_add-x
+overflow_add-x c = omega (arith, (reached c).to_x)
+
+pub overflow_mul-y : goal.overflow_mul-y
+overflow_mul-y c = omega (arith, (reached c).step_y)
+
+pub overflow_add-y : goal.overflow_add-y
+overflow_add-y c = omega (arith, (reached c).to_y)
+
+pub overflow_mul-z : goal.overflow_mul-z
+overflow_mul-z c = omega (arith, (reached c).step_z)
+
+pub overflow_add-z : goal.overflow_add-z
+overflow_add-z c = omega (arith, (reached c).to_z)
+
+pub returns : goal.returns
+returns c =
+    found c.args.e c.args.corner c.side-h.result c.sides-s.result c.side-h.ensures c.sides-s.ensures
