@@ -65,40 +65,38 @@ record Known (l p i : ℕ) (r : Root) (e : Prism) : Type 0 where
   is : e ≡ element_at prism l p
   sound : Sound prism e
 
-known : (c : tie.After_known_told)
-    → Known c.before.before.before.before.before.before.before.before.before.args.level c.before.before.before.before.before.before.before.before.before.args.position c.before.before.before.before.before.before.before.before.before.args.corner c.before.before.before.before.before.before.before.before.before.args.root c.before.e.given.0.0
-known c =
-    let at_at = c.before.before.before in
-    let start = c.before.before.before.before.before.before.before.before.before in
-    let l = start.args.level in
-    let p = start.args.position in
-    let shallow = c.before.before.before.before.before.before.before.before.if1.false in
-    let below : p < 8 ^ l = rw (shifted_power 3 l (omega arith)) at c.before.before.before.before.before.before.before.if2.false in
-    let is = element_is l p shallow below at_at.at.result _ c.before.e.given.1 at_at.at.ensures in
-    record {
-      shallow = shallow;
-      below = below;
-      small = c.before.before.before.before.before.before.if3.false;
-      near = sym c.before.before.before.before.before.within.ensures ∙ not-false _ c.before.before.before.before.if4.false;
-      is = is;
-      sound = subst⁻¹ (Sound prism) is (element_sound l p shallow below);
-    }
+known : (l p i : ℕ) (r : Root) (e : Prism) → l ≤ 21 → p < 8 ^ l → i < 6 → root_within r ≡ true → e ≡ element_at prism l p → Known l p i r e
+known l p i r e shallow below small near is =
+    record { shallow = shallow; below = below; small = small; near = near; is = is; sound = subst⁻¹ (Sound prism) is (element_sound l p shallow below) }
 
 pub local_of-requires : goal.local_of-requires
-local_of-requires c = let k = known c in (k.sound, k.small)
+local_of-requires c =
+    let l = c.args.level in
+    let p = c.args.position in
+    let below : p < 8 ^ l = rw (shifted_power 3 l (omega arith)) at c.if-level-position.false in
+    let shallow = c.if-level-gt-HIGHEST.false in
+    (subst⁻¹ (Sound prism) (element_is l p shallow below c.at.result _ c.in-Is.is c.at.ensures) (element_sound l p shallow below), c.if-corner-ge-CORNERS.false)
 
 pub placed-requires : goal.placed-requires
 placed-requires c =
-    let k = known c in
+    let l = c.args.level in
+    let p = c.args.position in
+    let below : p < 8 ^ l = rw (shifted_power 3 l (omega arith)) at c.if-level-position.false in
+    let shallow = c.if-level-gt-HIGHEST.false in
+    let k = known l p c.args.corner c.args.root _ shallow below c.if-corner-ge-CORNERS.false (sym c.within.ensures ∙ c.if-not-within.false) (element_is l p shallow below c.at.result _ c.in-Is.is c.at.ensures) in
     (k.near, subst⁻¹ (λ (x : Local). InRoot 21 (corner_of x)) c.local_of.ensures (corner_in_root 21 _ _ k.sound k.small))
 
 pub returns : goal.returns
 returns c =
+    let l = c.args.level in
+    let p = c.args.position in
     let i = c.args.corner in
     let r = c.args.root in
-    let k = known c in
+    let below : p < 8 ^ l = rw (shifted_power 3 l (omega arith)) at c.if-level-position.false in
+    let shallow = c.if-level-gt-HIGHEST.false in
+    let k = known l p i r _ shallow below c.if-corner-ge-CORNERS.false (sym c.within.ensures ∙ c.if-not-within.false) (element_is l p shallow below c.at.result _ c.in-Is.is c.at.ensures) in
     ap accepted
     (c.placed.ensures
     ∙ ap (λ (x : Local). point_at r (corner_of x)) c.local_of.ensures
     ∙ ap (λ (x : Prism). point_at r (prisms.corner 21 x i)) k.is)
-    ∙ sym (point_accepted c.args.level c.args.position i r k.shallow k.below k.small k.near)
+    ∙ sym (point_accepted l p i r k.shallow k.below k.small k.near)

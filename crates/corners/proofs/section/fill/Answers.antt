@@ -45,7 +45,7 @@ next-kept-requires c =
       omega (arith, is, c.requires.shallow),
       (
         subst⁻¹ (λ (u : ℕ). p / 8 < 8 ^ u) is (parent_inside a.level p inside),
-        subst⁻¹ (λ (u : ℕ). c.loop-i.auto ≡ kept_at u c.loop-i.auto.position) is c.loop-i.invariant.held,
+        subst⁻¹ (λ (u : ℕ). c.loop-i.kept ≡ kept_at u c.loop-i.kept.position) is c.loop-i.invariant.held,
       ),
     )
 
@@ -73,25 +73,25 @@ placed-p-requires c =
     )
 
 pub offset_bounds-xs-i : goal.offset_bounds-xs-i
-offset_bounds-xs-i c = mul_position c
+offset_bounds-xs-i c = omega arith
 
 pub bounds-xs-i : goal.bounds-xs-i
 bounds-xs-i c = omega (arith, c.loop-i-test.true, (stays c.loop-i.invariant (equal _ _ c.requires.equal)).in_xs)
 
 pub offset_bounds-ys-i : goal.offset_bounds-ys-i
-offset_bounds-ys-i c = mul_position c
+offset_bounds-ys-i c = omega arith
 
 pub bounds-ys-i : goal.bounds-ys-i
 bounds-ys-i c = omega (arith, c.loop-i-test.true, (stays c.loop-i.invariant (equal _ _ c.requires.equal)).in_ys)
 
 pub offset_bounds-zs-i : goal.offset_bounds-zs-i
-offset_bounds-zs-i c = mul_position c
+offset_bounds-zs-i c = omega arith
 
 pub bounds-zs-i : goal.bounds-zs-i
 bounds-zs-i c = omega (arith, c.loop-i-test.true, (stays c.loop-i.invariant (equal _ _ c.requires.equal)).in_zs)
 
 pub overflow_add-i : goal.overflow_add-i
-overflow_add-i c = omega (arith, mul_position c)
+overflow_add-i c = omega arith
 
 pub loop-i-smaller : goal.loop-i-smaller
 loop-i-smaller c = omega arith

@@ -1,8 +1,13 @@
 -- `local_of` meets its contract: an element's corners lie none or one side from its anchor, within the edge. Assumes nothing.
-use Prim.Native.Nat.{◌/◌, ◌%◌}
+use mathlib.Core.Path.{◌≡◌}
+use Prim.Native.Nat.{ℕ, ◌/◌, ◌%◌, ◌≤◌, ◌<◌}
 use native.Mathlib.Nat.{mod-lt}
 use native.Mathlib.Omega.{arith}
 use lib.Dec.{lit<}
+use Rattle.tree.specs.Anchors.{side}
+use Rattle.tree.specs.Laws.{Sound}
+use Rattle.prism.specs.declared.Prism.{Prism}
+use Rattle.prism.specs.Elements.{prism}
 use Rattle.corners.proofs.LocalCorners.{room_at, Spans, spans, found}
 use Rattle.corners.proofs.work.local_of.Goals as goal
 
@@ -13,29 +18,26 @@ pub overflow_cast-s : goal.overflow_cast-s
 overflow_cast-s c = omega (arith, c.sides-s.ensures.narrow)
 
 -- what is known once the sides are
-reached : (c : tie.After_sides) → Spans c.before.before.args.e c.before.side.result (c.sides.result / 2) (c.sides.result % 2) (c.before.before.args.corner / 3)
-reached c =
-    let start = c.before.before in
-    let h = c.before.side in
-    spans start.args.e 1 h.result _ _ _ (omega (arith, h.ensures)) start.requires.0 (omega (arith, c.sides.ensures.narrow)) (omega arith) (omega (arith, start.requires.1))
+reached : (e : Prism) (corner h s : ℕ) → h ≡ side 21 e.level → Sound prism e → s ≤ 3 → corner < 6 → Spans e h (s / 2) (s % 2) (corner / 3)
+reached e corner h s is sound narrow numbered = spans e 1 h _ _ _ (omega (arith, is)) sound (omega (arith, narrow)) (omega arith) (omega (arith, numbered))
 
 pub overflow_mul-x : goal.overflow_mul-x
-overflow_mul-x c = omega (arith, (reached c).step_x)
+overflow_mul-x c = omega (arith, (reached c.args.e c.args.corner c.side-h.result c.sides-s.result c.side-h.ensures c.requires.0 c.sides-s.ensures.narrow c.requires.1).step_x)
 
 pub overflow_add-x : goal.overflow_add-x
-overflow_add-x c = omega (arith, (reached c).to_x)
+overflow_add-x c = omega (arith, (reached c.args.e c.args.corner c.side-h.result c.sides-s.result c.side-h.ensures c.requires.0 c.sides-s.ensures.narrow c.requires.1).to_x)
 
 pub overflow_mul-y : goal.overflow_mul-y
-overflow_mul-y c = omega (arith, (reached c).step_y)
+overflow_mul-y c = omega (arith, (reached c.args.e c.args.corner c.side-h.result c.sides-s.result c.side-h.ensures c.requires.0 c.sides-s.ensures.narrow c.requires.1).step_y)
 
 pub overflow_add-y : goal.overflow_add-y
-overflow_add-y c = omega (arith, (reached c).to_y)
+overflow_add-y c = omega (arith, (reached c.args.e c.args.corner c.side-h.result c.sides-s.result c.side-h.ensures c.requires.0 c.sides-s.ensures.narrow c.requires.1).to_y)
 
 pub overflow_mul-z : goal.overflow_mul-z
-overflow_mul-z c = omega (arith, (reached c).step_z)
+overflow_mul-z c = omega (arith, (reached c.args.e c.args.corner c.side-h.result c.sides-s.result c.side-h.ensures c.requires.0 c.sides-s.ensures.narrow c.requires.1).step_z)
 
 pub overflow_add-z : goal.overflow_add-z
-overflow_add-z c = omega (arith, (reached c).to_z)
+overflow_add-z c = omega (arith, (reached c.args.e c.args.corner c.side-h.result c.sides-s.result c.side-h.ensures c.requires.0 c.sides-s.ensures.narrow c.requires.1).to_z)
 
 pub returns : goal.returns
 returns c =
