@@ -93,6 +93,7 @@ refusal_few number field small few =
     )
 
 listed_few : (number : ℕ) (ns : List ℕ) → Memᴰ number ns → number ≤ whole ns
+listed_few number [] x' = elim x' [ ]
 listed_few number (n ∷ ns) (Memᴰ.head e) = omega (arith, e)
 listed_few number (n ∷ ns) (Memᴰ.tail inside) = let later = listed_few number ns inside in omega arith
 

@@ -1,7 +1,6 @@
 // The line with a 2 put in where field seven is empty.
 ghost use Rattle.std.specs.Prelude.{◌≡◌, ◌≤◌, ◌<◌, length};
-ghost use Rattle.converter.specs.Inner.{begins, Front, filled};
-ghost use Rattle.converter.specs.Inner.{gap as Inner·gap};
+ghost use Rattle.converter.specs.Inner.{begins, Front, filled, gap};
 
 use fields::cut;
 
@@ -28,7 +27,7 @@ fn seventh(input: &[u8]) -> usize
 
 // Where an empty field seven begins; past the input where there is none.
 pub(crate) fn gap(input: &[u8]) -> usize
-    ensures { result ≡ Inner·gap input.now }
+    ensures { result ≡ gap input.now }
 {
     let at = seventh(input);
     if cut::ends(input, at) {

@@ -6,8 +6,7 @@ ghost use Rattle.std.specs.Prelude.{◌≡◌};
 ghost use Rattle.forms.specs.Forms.{form_of};
 ghost use Rattle.text.specs.Text.{Prints};
 ghost use Rattle.converter.specs.Calls.{Converts};
-ghost use Rattle.converter.specs.Inner.{is_order};
-ghost use Rattle.converter.specs.Inner.{kept as Inner·kept};
+ghost use Rattle.converter.specs.Inner.{is_order, kept};
 
 use forms::FormAnswer;
 use orders::LONGEST_INPUT;
@@ -44,7 +43,7 @@ fn copied(line: &[u8], out: &mut [u8]) -> NumberAnswer
 
 // A line without a gap: itself where the order program accepts it, else its refusal.
 fn kept(line: &[u8], out: &mut [u8]) -> NumberAnswer
-    ensures { Prints (Inner·kept line.now) result out.old out.new }
+    ensures { Prints (kept line.now) result out.old out.new }
 {
     let asked = forms::read(line);
     if is_order(asked) {

@@ -2,8 +2,7 @@
 #![tactic(auto)]
 
 ghost use Rattle.std.specs.Prelude.{◌≡◌};
-ghost use Rattle.forms.specs.Forms.{form_of};
-ghost use Rattle.forms.specs.Forms.{read as Forms·read};
+ghost use Rattle.forms.specs.Forms.{form_of, read};
 
 use fields::cut;
 
@@ -31,7 +30,7 @@ pub enum FormAnswer {
 
 // What the input asks for. Refused: the first field with a fault; 23 at field 8 where anything but one last LF follows the seventh.
 pub fn read(input: &[u8]) -> FormAnswer
-    ensures { form_of result ≡ Forms·read input.now }
+    ensures { form_of result ≡ read input.now }
 {
     // The numbers by their fields, counted from 1.
     let mut v = [0u64; 8];

@@ -1,9 +1,9 @@
 // The range of each field's number.
+ghost use Rattle.forms.specs.Forms.{outside};
 ghost use Rattle.std.specs.Prelude.{◌≡◌, ◌*◌, ◌^◌, ltb};
 ghost use Rattle.paper.specs.Outcome.{fault_when};
 ghost use Rattle.leaves.specs.Leaves.{CHILDREN};
 ghost use Rattle.leaves.specs.Calls.{limit, out_of_range};
-ghost use Rattle.forms.specs.Forms.{outside as Forms·outside};
 
 // The most roots, and the most shares.
 const MOST: u64 = leaves::MOST as u64;
@@ -55,7 +55,7 @@ fn level_fault(v: u64, k: u64, highest: u64) -> u8
 
 // The refusal of the number v in field i, 0 where there is none.
 pub(crate) fn outside(i: usize, v: u64, k: u64, highest: u64) -> u8
-    ensures { result ≡ Forms·outside i v k highest }
+    ensures { result ≡ outside i v k highest }
 {
     if i == 4 {
         return count_fault(v);

@@ -5,9 +5,7 @@
 ghost use Rattle.std.specs.Prelude.{◌≡◌, ◌+◌, ◌*◌, ◌/◌, ◌^◌, ◌≤◌, ◌<◌, min, length, set};
 ghost use Rattle.std.proofs.lemmas.List.Edits.{sets};
 ghost use Rattle.forms.specs.Forms.{form_of};
-ghost use Rattle.text.specs.Text.{counted, share_line, share_lines, first_line, refusal_line, Prints};
-ghost use Rattle.text.specs.Text.{decimal as Text·decimal};
-ghost use Rattle.text.specs.Text.{entry as Text·entry};
+ghost use Rattle.text.specs.Text.{counted, share_line, share_lines, first_line, refusal_line, Prints, decimal, entry};
 ghost use Rattle.text.specs.Inner.{Put, spelled};
 
 use forms::{Form, FormAnswer};
@@ -59,7 +57,7 @@ fn word(out: &mut [u8], at: usize, text: &[u8]) -> usize
 // A number in decimal digits.
 fn decimal(out: &mut [u8], at: usize, n: u64) -> usize
     requires { at + 21 < 2 ^ 64 }
-    ensures { Put (Text·decimal n) at out.old out.new result }
+    ensures { Put (decimal n) at out.old out.new result }
 {
     if n < 10 {
         put(out, at, b'0' + n as u8);
@@ -84,7 +82,7 @@ fn number(out: &mut [u8], at: usize, n: u64, after: u8) -> usize
 // A word, and a number with the byte after it.
 fn entry(out: &mut [u8], at: usize, text: &[u8], n: u64, after: u8) -> usize
     requires { at + length text.now + 21 < 2 ^ 64 }
-    ensures put { Put (Text·entry text.now n after) at out.old out.new result }
+    ensures put { Put (entry text.now n after) at out.old out.new result }
     ensures upper_bound { result ≤ at + length text.now + 21 }
 {
     let end = word(out, at, text);

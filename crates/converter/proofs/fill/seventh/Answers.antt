@@ -1,10 +1,10 @@
 -- `seventh` meets its contract: before each byte, so many semicolons are to come. Assumes nothing.
 use mathlib.Core.Path.{subst⁻¹}
-use mathlib.Core.Logic.{⊎_elim}
 use Prim.Native.Nat.{ℕ, ◌+◌, ◌-◌}
 use native.Mathlib.Omega.{arith}
 use Rattle.converter.proofs.Seats.{Seat, seat_start, seat_here, seat_past, seat_over, seat_field, seat_on}
 use Rattle.converter.proofs.fill.seventh.Goals as goal
+use Rattle.converter.proofs.fill.seventh.Goals.{then-input-i-eq59, else-input-i-eq59}
 
 pub loop-left-init : goal.loop-left-init
 loop-left-init c = seat_start c.args.input.now
@@ -37,10 +37,10 @@ loop-left-preserved c =
     let l = c.loop-left in
     let seat = l.invariant in
     let s = c.args.input.now in
-    ⊎_elim
-    (λ w. subst⁻¹ (λ (k : ℕ). Seat s k (l.i + 1)) w.1 (seat_field seat c.loop-left-test.true c.if-input-i.false w.0.taken))
-    (λ w. subst⁻¹ (λ (k : ℕ). Seat s k (l.i + 1)) w.1 (seat_on seat c.loop-left-test.true c.if-input-i.false c.if-input-i-eq10.false w.0.left))
-    c.if-input-i-eq59.branch
+    elim c.if-input-i-eq59.branch [
+      | then-input-i-eq59 w ↦ subst⁻¹ (λ (k : ℕ). Seat s k (l.i + 1)) w.left-is (seat_field seat c.loop-left-test.true c.if-input-i.false w.if-input-i-eq59.true)
+      | else-input-i-eq59 w ↦ subst⁻¹ (λ (k : ℕ). Seat s k (l.i + 1)) w.left-is (seat_on seat c.loop-left-test.true c.if-input-i.false c.if-input-i-eq10.false w.if-input-i-eq59.false)
+    ]
 
 pub returns : goal.returns
 returns c = seat_here c.loop-left.invariant c.loop-left-test.false
