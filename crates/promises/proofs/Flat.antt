@@ -28,6 +28,7 @@ said (n ∷ ns) = (leb 1 n && leb n 24) && said ns
 
 above : (k : ℕ) (ns : List ℕ) → said ns ≡ true → Memᴰ k ns → (1 ≤ k) × (k ≤ 24)
 unfolding said
+above k [] h x'' = elim x'' [ ]
 above k (n ∷ ns) h (Memᴰ.head e) =
     let here = (and-eq-true_iff (leb 1 n) (leb n 24)).0 ((and-eq-true_iff (leb 1 n && leb n 24) (said ns)).0 h).0 in
     (omega (arith, leb-true 1 n here.0, e), omega (arith, leb-true n 24 here.1, e))

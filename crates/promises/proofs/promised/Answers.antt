@@ -5,10 +5,9 @@ use Rattle.promises.proofs.Demand2.{demand_2}
 use Rattle.promises.proofs.Demand3.{of_grids}
 use Rattle.promises.proofs.InMemory.{in_memory, in_memory_over_c}
 use Rattle.promises.proofs.Starred.{starred_hold}
-use Rattle.promises.proofs.promised.Statement.{statement}
-use Rattle.promises.proofs.promised.Tie as tie
+use Rattle.promises.proofs.promised.Goals as goal
 
-returns : tie.Need_returns
+pub returns : goal.returns
 returns c =
     record {
       demand_1 = record { of_calls = of_calls; over_c = over_c };
@@ -16,6 +15,3 @@ returns c =
       demand_3 = record { of_grids = of_grids; in_memory = in_memory; in_memory_over_c = in_memory_over_c lists_over_c };
       starred_examples = starred_hold;
     }
-
-pub promised_spec : {M : Type 1} → statement M
-promised_spec = tie.close (tie.spec returns)
