@@ -12,7 +12,7 @@ use Rattle.paper.proofs.Front.{map_rows}
 use Rattle.paper.proofs.Memory.{refuses, accepts}
 use Rattle.tree.proofs.Digits.{power_bits}
 use Rattle.paper.specs.declared.NumberAnswer.TheVariants as number
-use Rattle.leaves.specs.Leaves.{Leaf, leaf, Columns, columns, equal_columns, room, front, uniform_list}
+use Rattle.leaves.specs.Leaves.{Leaf, leaf, Columns, equal_columns, room, front, uniform_list}
 use Rattle.leaves.specs.Calls.{out_of_range, uniform, Started}
 use Rattle.leaves.proofs.Starting.{leaves_shifted}
 use Rattle.leaves.proofs.Columns.{columns_same}

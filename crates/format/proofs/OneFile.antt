@@ -4,7 +4,7 @@ use mathlib.Core.List.{List}
 use Prim.Native.Nat.{ℕ, ◌≤◌, ◌<◌}
 use Rattle.paper.proofs.Scan.{accepted_same}
 use Rattle.paper.specs.Outcome.{accepted}
-use Rattle.leaves.specs.Leaves.{leaves, spot_at, Valid}
+use Rattle.leaves.specs.Leaves.{spot_at, Valid}
 use Rattle.leaves.proofs.Entries.{one_ending}
 use Rattle.format.specs.File.{runs_file, file_of}
 use Rattle.numbers.specs.Numbers.{highest}

@@ -12,20 +12,20 @@ use Rattle.marks.specs.Inner.{Faultless}
 
 module _ (fault : ℕ → ℕ) (m : ℕ) where
   -- the leaves before number i are without fault
-  abbrev pub Sound_to : ℕ → Type 0
-  Sound_to i = checks fault (numbers m) ≡ scan fault i (rows (λ j. j) i (m - i)) passed
+  abbrev pub SoundTo : ℕ → Type 0
+  SoundTo i = checks fault (numbers m) ≡ scan fault i (rows (λ j. j) i (m - i)) passed
 
-  pub sound_first : Sound_to 0
+  pub sound_first : SoundTo 0
   sound_first = ap (λ (k : ℕ). scan fault 0 (rows (λ j. j) 0 k) passed) (sym (sub-zero m))
 
-  pub sound_next : (i : ℕ) → i < m → fault i ≡ 0 → Sound_to i → Sound_to (i + 1)
+  pub sound_next : (i : ℕ) → i < m → fault i ≡ 0 → SoundTo i → SoundTo (i + 1)
   sound_next i inside none so_far = so_far ∙ scan_step fault (λ j. j) m i passed inside none
 
-  pub sound_not : (i k : ℕ) → i < m → fault i ≡ suc k → Sound_to i → refused (suc k) i ≡ checks fault (numbers m)
+  pub sound_not : (i k : ℕ) → i < m → fault i ≡ suc k → SoundTo i → refused (suc k) i ≡ checks fault (numbers m)
   sound_not i k inside some so_far =
       sym (so_far ∙ scan_found fault (λ j. j) m i passed inside (λ none. omega arith) ∙ ap (λ (number : ℕ). refused number i) some)
 
-  pub sound_all : (i : ℕ) → m ≤ i → Sound_to i → passed ≡ checks fault (numbers m)
+  pub sound_all : (i : ℕ) → m ≤ i → SoundTo i → passed ≡ checks fault (numbers m)
   sound_all i past so_far = sym (so_far ∙ ap (λ (es : List ℕ). scan fault i es passed) (rows_done (λ j. j) m i past))
 
 -- ---- no fault among the first marks

@@ -9,10 +9,8 @@ use Rattle.line.specs.declared.Line.{Line}
 use Rattle.line.specs.Elements.{line_to}
 use Rattle.triangle.specs.declared.Triangle.{Triangle}
 use Rattle.triangle.specs.Elements.{triangle_to}
-use Rattle.line.specs.declared.LineAnswer.TheVariants as line_answer
 use Rattle.line.specs.Elements as line
 use Rattle.line.proofs.Closed as line_closed
-use Rattle.triangle.specs.declared.TriangleAnswer.TheVariants as triangle_answer
 use Rattle.triangle.specs.Elements as triangle
 use Rattle.triangle.proofs.Units as triangle_units
 use Rattle.prism.specs.declared.Prism.{Prism}

@@ -6,7 +6,7 @@
 --   AllHold             every case of a table holds
 --
 -- Assumes nothing.
-use Rattle.std.specs.Prelude.{◌≡◌, List, [], ◌∷◌, ◌++◌, ℕ, ◌+◌, replicate}
+use Rattle.std.specs.Prelude.{◌≡◌, List, [], ◌∷◌, ◌++◌, ℕ, replicate}
 use Rattle.paper.specs.Outcome.{Outcome, accepted, refused}
 use Rattle.tree.specs.Anchors.{HIGHEST}
 use Rattle.prism.specs.declared.Prism.{Prism}

@@ -12,7 +12,7 @@ use Rattle.shares.specs.Shares.{boundary}
 use Rattle.shares.proofs.Promised.{promised}
 use Rattle.forms.specs.declared.Form.{Form}
 use Rattle.fields.specs.Fields.{lf}
-use Rattle.text.specs.Text.{blank, counted, entry, word_order, word_site, word_model, word_roots, word_level, word_leaves, word_shares, first_line, share_line, chained, share_lines, weights, printed}
+use Rattle.text.specs.Text.{blank, entry, word_order, word_site, word_model, word_roots, word_level, word_leaves, word_shares, first_line, share_line, chained, share_lines, weights, printed}
 use Rattle.text.specs.Inner.{spelled}
 use Rattle.forms.proofs.Bounds.{Orderly}
 use Rattle.text.proofs.Decimals.{entry_few}

@@ -1,7 +1,6 @@
 -- `all_near` meets its contract: the answer is that of the leaves before i and of those from i on, after leaf i - 1. Assumes nothing.
 use mathlib.Core.Path.{ap, ◌∙◌, sym}
 use mathlib.Core.Bool.{Bool, ◌&&◌, and-true}
-use Prim.Native.Nat.{◌-◌}
 use native.Mathlib.Omega.{arith}
 use lib.ListN.{length}
 use Rattle.leaves.specs.Leaves.{columns, leaf_at}

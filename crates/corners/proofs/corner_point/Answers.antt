@@ -3,7 +3,6 @@ use mathlib.Core.Path.{◌≡◌, ap, ◌∙◌, sym, subst⁻¹}
 use mathlib.Core.Bool.{true}
 use Prim.Native.Nat.{ℕ, ◌^◌, ◌≤◌, ◌<◌}
 use native.Mathlib.Omega.{arith}
-use borrow.Author.Tests.{not-false}
 use Rattle.paper.specs.Outcome.{accepted}
 use Rattle.tree.specs.Laws.{Sound}
 use Rattle.tree.specs.Words.{element_at}

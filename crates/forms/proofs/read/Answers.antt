@@ -1,6 +1,5 @@
 -- `read` meets its contract: before each field, those to the left are without fault and their numbers are kept. Assumes nothing.
 use mathlib.Core.Path.{refl, sym, ◌∙◌}
-use Prim.Native.Nat.{◌-◌}
 use native.Mathlib.Omega.{arith}
 use Rattle.forms.proofs.Deciding.{reading_start, reading_refused, reading_step}
 use Rattle.forms.proofs.Whole.{reading_open, level_small, leaves_small, shares_small, reading_form}

@@ -1,7 +1,7 @@
 -- `walk` meets its contract: the leaves before i are sound, so the check is that of the leaves from i on. Assumes nothing.
 use mathlib.Core.Path.{ap, ◌∙◌, sym}
 use mathlib.Core.Bool.{true≢false}
-use Prim.Native.Nat.{ℕ, ◌+◌, ◌-◌, ◌^◌, ◌<◌}
+use Prim.Native.Nat.{ℕ, ◌+◌, ◌^◌, ◌<◌}
 use native.Mathlib.Nat.{sub-zero}
 use native.Mathlib.Omega.{arith}
 use lib.ListN.{length}

@@ -1,5 +1,4 @@
 -- `above_two` meets its contract: the marks before i are at most 2. Assumes nothing.
-use Prim.Native.Nat.{◌-◌}
 use native.Mathlib.Omega.{arith}
 use lib.ListN.{length, get_or}
 use borrow.Author.Tests.{lt-ltb, le-ltb}

@@ -1,6 +1,5 @@
 -- `too_deep` meets its contract: no leaf before i is refined at the highest level. Assumes nothing.
 use mathlib.Core.Path.{sym}
-use Prim.Native.Nat.{◌-◌}
 use native.Mathlib.Omega.{arith}
 use lib.ListN.{length}
 use Rattle.marks.specs.Marks.{depth_fault}

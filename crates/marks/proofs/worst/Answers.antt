@@ -1,6 +1,5 @@
 -- `worst` meets its contract: while it is 0, no mark before i has a fault. Assumes nothing.
 use mathlib.Core.Path.{◌≡◌, sym}
-use Prim.Native.Nat.{◌-◌}
 use native.Mathlib.Omega.{arith}
 use lib.ListN.{length}
 use Rattle.marks.proofs.Sound.{faultless_none, faultless_more}

@@ -1,7 +1,7 @@
 -- `first_beyond` meets its contract: the positions before i are no fault, so the checks are those of the positions from i on. Assumes nothing.
 use mathlib.Core.Path.{refl, ap, ◌∙◌, sym}
 use mathlib.Core.List.{List}
-use Prim.Native.Nat.{ℕ, ◌-◌, ◌^◌, ◌≤◌, ◌<◌}
+use Prim.Native.Nat.{ℕ, ◌^◌, ◌≤◌, ◌<◌}
 use native.Mathlib.Omega.{arith}
 use lib.ListN.{get_or, drop_of_length-le}
 use Rattle.paper.specs.Outcome.{passed, scan}

@@ -1,5 +1,4 @@
 -- `merged` meets its contract: none of the positions before passes the bits. Assumes nothing.
-use Prim.Native.Nat.{◌-◌}
 use native.Mathlib.Omega.{arith}
 use Rattle.positions.proofs.Checking.{merged_next}
 use Rattle.positions.proofs.merged.Goals as goal

@@ -1,6 +1,5 @@
 -- `lay` meets its contract: after i bytes, the first i are put; those that do not fit change nothing. Assumes nothing.
 use mathlib.Core.Path.{refl, ap, ◌∙◌}
-use Prim.Native.Nat.{◌-◌}
 use native.Mathlib.Omega.{arith}
 use lib.ListN.{length, take}
 use lib.Seq.{length-sets}

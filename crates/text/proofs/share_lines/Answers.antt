@@ -1,6 +1,6 @@
 -- `share_lines` meets its contract: before share s, the lines of the shares before it are put. Assumes nothing.
 use mathlib.Core.Path.{refl, subst⁻¹}
-use Prim.Native.Nat.{ℕ, ◌+◌, ◌-◌, ◌*◌, ◌/◌, ◌≤◌}
+use Prim.Native.Nat.{ℕ, ◌+◌, ◌*◌, ◌/◌, ◌≤◌}
 use native.Mathlib.Omega.{arith}
 use Rattle.text.proofs.Writing.{put_length}
 use Rattle.text.proofs.Lines.{first_zero, first_rises, product_small, listed_none, listed_more, listed_done}

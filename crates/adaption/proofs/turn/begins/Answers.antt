@@ -1,6 +1,6 @@
 -- `begins` meets its contract: the t leaves from i on have one level and carry 2. Assumes nothing.
 use mathlib.Core.Path.{◌≡◌, ap, ◌∙◌, sym, subst}
-use Prim.Native.Nat.{ℕ, ◌-◌, ◌%◌, ◌^◌}
+use Prim.Native.Nat.{ℕ, ◌%◌, ◌^◌}
 use native.Mathlib.Omega.{arith}
 use lib.ListN.{get_or}
 use lib.Pow.{pow_pos}

@@ -1,6 +1,6 @@
 -- `seventh` meets its contract: before each byte, so many semicolons are to come. Assumes nothing.
 use mathlib.Core.Path.{subst⁻¹}
-use Prim.Native.Nat.{ℕ, ◌+◌, ◌-◌}
+use Prim.Native.Nat.{ℕ, ◌+◌}
 use native.Mathlib.Omega.{arith}
 use Rattle.converter.proofs.Seats.{Seat, seat_start, seat_here, seat_past, seat_over, seat_field, seat_on}
 use Rattle.converter.proofs.fill.seventh.Goals as goal

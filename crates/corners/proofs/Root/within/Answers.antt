@@ -6,7 +6,6 @@ use mir.Val.{SFits, to_z, of_z}
 use mir.ValLaws.{to_z-of_z}
 use borrow.Author.Rules.{rules}
 use Rattle.corners.specs.declared.Corner.{Corner}
-use Rattle.corners.specs.declared.Root.{Root}
 use Rattle.corners.specs.CornerPoints.{all_within, corner_within}
 use Rattle.corners.proofs.Conjunctions.{fails, holds}
 use Rattle.corners.proofs.Root.within.Goals as goal

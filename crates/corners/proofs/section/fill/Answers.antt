@@ -1,6 +1,6 @@
 -- `fill` meets its contract: the points before i are written, and the parent of the last is kept. Assumes nothing.
 use mathlib.Core.Path.{◌≡◌, ap, ◌∙◌, sym, subst⁻¹}
-use Prim.Native.Nat.{ℕ, ◌-◌, ◌/◌, ◌^◌, ◌<◌}
+use Prim.Native.Nat.{ℕ, ◌/◌, ◌^◌, ◌<◌}
 use native.Mathlib.Omega.{arith}
 use lib.Dec.{lit<}
 use lib.ListN.{get_or}

@@ -1,6 +1,6 @@
 -- `steps` meets its contract: after i turns the word has its lowest i digits. Assumes nothing.
 use mathlib.Core.Path.{◌≡◌, ap, ◌∙◌}
-use Prim.Native.Nat.{ℕ, ◌+◌, ◌-◌, ◌*◌, ◌%◌, ◌^◌}
+use Prim.Native.Nat.{ℕ, ◌+◌, ◌*◌, ◌%◌, ◌^◌}
 use native.Mathlib.Omega.{arith}
 use Rattle.corners.specs.Inner.{steps_to}
 use Rattle.corners.proofs.Digits.{one_digit_more, still_a_word}

@@ -1,5 +1,5 @@
 -- `digits` meets its contract: after k digits, the number so far and what is left of the field say what the field says. Assumes nothing.
-use Prim.Native.Nat.{◌+◌, ◌-◌}
+use Prim.Native.Nat.{◌+◌}
 use native.Mathlib.Omega.{arith}
 use Rattle.fields.proofs.Numbers.{passing_start, passing_past, passing_low, passing_high, passing_done, passing_small, passing_more}
 use Rattle.fields.proofs.digits.digits.Goals as goal

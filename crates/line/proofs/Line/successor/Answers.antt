@@ -4,7 +4,7 @@ use Prim.Native.Nat.{ℕ, ◌+◌, ◌^◌, ◌≤◌}
 use native.Mathlib.Omega.{arith}
 use lib.Pow.{pow_mono, pow-lt}
 use Rattle.paper.specs.Outcome.{accepted}
-use Rattle.tree.specs.Words.{last, element_at}
+use Rattle.tree.specs.Words.{element_at}
 use Rattle.tree.proofs.RoundTrip.{position_lt}
 use Rattle.tree.proofs.Call.{faulty, successor_refused_9, successor_accepted}
 use Rattle.tree.proofs.Anchor.{shifted_one}

@@ -1,6 +1,6 @@
 -- `Prism::rank` meets its contract: the loop goes up by one digit a turn. Assumes nothing.
 use mathlib.Core.Path.{subst⁻¹}
-use Prim.Native.Nat.{ℕ, suc, ◌+◌, ◌-◌, ◌*◌, ◌/◌, ◌%◌, ◌^◌, ◌≤◌}
+use Prim.Native.Nat.{ℕ, suc, ◌+◌, ◌*◌, ◌/◌, ◌%◌, ◌^◌, ◌≤◌}
 use native.Mathlib.Omega.{arith}
 use lib.Pow.{pow_mono}
 use Rattle.tree.specs.Words.{position_at}

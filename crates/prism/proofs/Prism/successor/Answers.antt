@@ -5,13 +5,12 @@ use native.Mathlib.Omega.{arith}
 use native.Mathlib.Nat.{pow-le-pow_right}
 use lib.Dec.{lit<}
 use Rattle.paper.specs.Outcome.{accepted}
-use Rattle.tree.specs.Words.{last, element_at}
+use Rattle.tree.specs.Words.{element_at}
 use Rattle.tree.proofs.RoundTrip.{position_lt}
 use Rattle.tree.proofs.Digits.{shifted_power}
 use Rattle.tree.proofs.Call.{faulty, successor_refused_9, successor_accepted}
 use Rattle.prism.specs.Elements.{prism, prism_to}
 use Rattle.prism.proofs.Laws.{grids, lawful}
-use Rattle.prism.proofs.Loops.{small, end}
 use Rattle.prism.proofs.Prism.successor.Goals as goal
 
 pub returns-then-fault-ne0 : goal.returns-then-fault-ne0

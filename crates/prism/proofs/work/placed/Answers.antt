@@ -2,7 +2,6 @@
 use Prim.Native.Nat.{◌-◌, ◌^◌, ◌≤◌}
 use native.Mathlib.Omega.{arith}
 use lib.Pow.{pow_mono}
-use Rattle.tree.specs.Words.{position}
 use Rattle.prism.proofs.Loops.{start, small, digit_lt, again, end}
 use Rattle.prism.proofs.work.placed.Goals as goal
 

@@ -1,6 +1,4 @@
 -- `prism::work::placed` meets its contract: the loop goes down by one digit a turn. Assumes nothing.
-use Prim.Native.Nat.{◌-◌}
-use Rattle.tree.specs.Words.{position}
 use Rattle.prism.proofs.Loops.{Reached}
 use Rattle.prism.proofs.work.placed.Given as goal
 

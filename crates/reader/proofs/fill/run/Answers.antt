@@ -1,5 +1,4 @@
 -- `run` meets its contract: each turn lays what is left of a root, or of the run. Assumes nothing.
-use Prim.Native.Nat.{◌-◌}
 use native.Mathlib.Omega.{arith}
 use Rattle.format.proofs.Spots.{left_bits, level_bits}
 use Rattle.sounding.specs.Answers.{spot_of}

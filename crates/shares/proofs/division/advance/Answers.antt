@@ -1,6 +1,5 @@
 -- `advance` meets its contract: the strides stay within the limit, then each turn adds one weight that keeps the sum within the limit, and it stops where the next would not.
 -- Assumes nothing.
-use Prim.Native.Nat.{◌-◌}
 use native.Mathlib.Omega.{arith}
 use Rattle.shares.proofs.Turns.{reached_next}
 use Rattle.shares.proofs.division.advance.Goals as goal

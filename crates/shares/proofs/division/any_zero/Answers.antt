@@ -1,8 +1,7 @@
 -- `any_zero` meets its contract: as long as no weight was 0, the checks are those of the weights from i on. Assumes nothing.
 use mathlib.Core.Path.{refl, ap, ◌∙◌}
-use mathlib.Core.Bool.{false}
 use mathlib.Core.List.{List}
-use Prim.Native.Nat.{ℕ, ◌-◌}
+use Prim.Native.Nat.{ℕ}
 use native.Mathlib.Omega.{arith}
 use lib.Dec.{eqb}
 use lib.ListN.{get_or, drop_of_length-le}

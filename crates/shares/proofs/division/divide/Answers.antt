@@ -1,5 +1,5 @@
 -- `divide` meets its contract: each turn writes the boundary of one share more. Assumes nothing.
-use Prim.Native.Nat.{◌-◌, ◌*◌, ◌≤◌}
+use Prim.Native.Nat.{◌*◌, ◌≤◌}
 use native.Mathlib.Nat.{div-le_self}
 use native.Mathlib.Omega.{arith}
 use Rattle.shares.proofs.Dividing.{divided_none, divided_length, divided_all, divided_more, parts_small}

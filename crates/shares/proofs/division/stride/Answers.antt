@@ -1,5 +1,5 @@
 -- `stride` meets its contract: each turn adds the weight of 16 leaves that keeps the sum within the limit. Assumes nothing.
-use Prim.Native.Nat.{◌+◌, ◌-◌}
+use Prim.Native.Nat.{◌+◌}
 use native.Mathlib.Omega.{arith}
 use Rattle.shares.proofs.Turns.{reached_part}
 use Rattle.shares.proofs.division.stride.Goals as goal

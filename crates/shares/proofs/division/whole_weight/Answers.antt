@@ -1,6 +1,6 @@
 -- `whole_weight` meets its contract: each turn adds the weight of one part to the sum of the first. Assumes nothing.
 use mathlib.Core.Path.{◌≡◌, ap, ◌∙◌}
-use Prim.Native.Nat.{ℕ, ◌-◌}
+use Prim.Native.Nat.{ℕ}
 use native.Mathlib.Omega.{arith}
 use lib.ListN.{length, take}
 use Rattle.shares.specs.Shares.{total}

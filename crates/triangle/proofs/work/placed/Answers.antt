@@ -4,7 +4,6 @@ use native.Mathlib.Omega.{arith}
 use native.Mathlib.Nat.{mod-lt}
 use lib.Pow.{pow_mono}
 use lib.Dec.{lit<}
-use Rattle.tree.specs.Words.{position}
 use Rattle.triangle.proofs.Loops.{start, small, again, end}
 use Rattle.triangle.proofs.work.placed.Goals as goal
 

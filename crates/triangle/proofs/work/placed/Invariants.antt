@@ -1,6 +1,4 @@
 -- `triangle::placed` meets its contract: the loop goes down by one digit a turn. Assumes nothing.
-use Prim.Native.Nat.{◌-◌}
-use Rattle.tree.specs.Words.{position}
 use Rattle.triangle.proofs.Loops.{Reached}
 use Rattle.triangle.proofs.work.placed.Given as goal
 

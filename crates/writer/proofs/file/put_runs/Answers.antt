@@ -1,5 +1,4 @@
 -- `put_runs` meets its contract: each turn stores the pair of one run more. Assumes nothing.
-use Prim.Native.Nat.{◌-◌}
 use native.Mathlib.Omega.{arith}
 use Rattle.writer.proofs.Putting.{stored_none, stored_next, stored_done, room_run, room_count}
 use Rattle.writer.proofs.file.put_runs.Goals as goal

@@ -1,5 +1,4 @@
 -- `end` meets its contract: each turn takes one leaf more of the level. Assumes nothing.
-use Prim.Native.Nat.{◌-◌}
 use native.Mathlib.Omega.{arith}
 use Rattle.writer.proofs.Ending.{alike_next}
 use Rattle.writer.proofs.run.end.Goals as goal

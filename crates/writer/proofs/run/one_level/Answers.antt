@@ -1,6 +1,5 @@
 -- `one_level` meets its contract: while it is true, the levels before t are the one given. Assumes nothing.
 use mathlib.Core.Path.{◌≡◌, ◌∙◌, sym}
-use Prim.Native.Nat.{◌-◌}
 use native.Mathlib.Omega.{arith}
 use Rattle.writer.proofs.Ending.{one_more, one_other}
 use Rattle.writer.proofs.run.one_level.Goals as goal
@@ -23,9 +22,9 @@ loop-t-preserved c =
     let a = c.args in (
       omega arith,
       elim c.if-levels-from.branch [
-          then-levels-from w ↦ one_other a.levels.now a.level a.from c.loop-t.t c.if-levels-from.same w.same-is
+        | then-levels-from w ↦ one_other a.levels.now a.level a.from c.loop-t.t c.if-levels-from.same w.same-is
         | else-levels-from w ↦ λ still. one_more a.levels.now a.level a.from c.loop-t.t (c.loop-t.invariant.1 (sym w.same-is ∙ still)) w.if-levels-from.false
-        ],
+      ],
     )
 
 pub returns : goal.returns

@@ -1,5 +1,4 @@
 -- `skip` meets its contract: each turn takes 64 leaves more of the level. Assumes nothing.
-use Prim.Native.Nat.{◌-◌}
 use native.Mathlib.Omega.{arith}
 use Rattle.writer.proofs.Ending.{alike_one, alike_more}
 use Rattle.writer.proofs.run.skip.Goals as goal
