@@ -3,64 +3,52 @@
 #![tactic(auto)]
 
 use corners::{Corner, PointAnswer, Root};
+use std::io;
 
-fn say_size(x: f64) {
+fn say_size(rt: &impl Print, x: f64) -> io::Result<()> {
     let eighths = x * 8.0;
     if eighths > -1.0 {
         if eighths < 18446744073709551616.0 {
             let n = std::num::truncating_f64_to_u64(eighths);
-            io::print_decimal(1, n / 8);
+            print!(rt; "{}", n / 8)?;
             let rest = n % 8;
             if 0 < rest {
-                io::write_all(1, b".");
-                io::print_decimal(1, rest * 125);
+                print!(rt; ".{}", rest * 125)?;
             }
         }
     }
+    Ok(())
 }
 
 // The sign too, which a zero would show if it had it.
-fn say_number(x: f64) {
-    io::write_all(1, b" ");
+fn say_number(rt: &impl Print, x: f64) -> io::Result<()> {
+    print!(rt; " ")?;
     if x < 0.0 {
-        io::write_all(1, b"-");
-        say_size(-x);
-        return;
+        print!(rt; "-")?;
+        return say_size(rt, -x);
     }
     if 1.0 / x < 0.0 {
-        io::write_all(1, b"-");
+        print!(rt; "-")?;
     }
-    say_size(x);
+    say_size(rt, x)
 }
 
-fn say(a: PointAnswer) {
+fn say(rt: &impl Print, a: PointAnswer) -> io::Result<()> {
     match a {
         PointAnswer::Is(p) => {
-            say_number(p.x);
-            say_number(p.y);
-            say_number(p.z);
-            io::write_all(1, b"\n");
+            say_number(rt, p.x)?;
+            say_number(rt, p.y)?;
+            say_number(rt, p.z)?;
+            println!(rt;)
         }
-        PointAnswer::Refused(number, place) => {
-            io::write_all(1, b" refused ");
-            io::print_decimal(1, number as u64);
-            io::write_all(1, b" place ");
-            io::print_decimal(1, place);
-            io::write_all(1, b"\n");
-        }
+        PointAnswer::Refused(number, place) => println!(rt; " refused {number} place {place}"),
     }
 }
 
 // The question, then the answer.
-fn show(level: u8, position: u64, corner: u8, root: Root) {
-    io::write_all(1, b"level ");
-    io::print_decimal(1, level as u64);
-    io::write_all(1, b" position ");
-    io::print_decimal(1, position);
-    io::write_all(1, b" corner ");
-    io::print_decimal(1, corner as u64);
-    io::write_all(1, b":");
-    say(corners::corner_point(level, position, corner, root));
+fn show(rt: &impl Print, level: u8, position: u64, corner: u8, root: Root) -> io::Result<()> {
+    print!(rt; "level {level} position {position} corner {corner}:")?;
+    say(rt, corners::corner_point(level, position, corner, root))
 }
 
 fn at(x: i64, y: i64, z: i64) -> Corner {
@@ -133,29 +121,29 @@ fn wide() -> Root {
     r
 }
 
-fn main() {
-    io::write_all(1, b"the marked root\n");
-    show(1, 6, 1, marked());
-    show(0, 0, 0, marked());
-    show(0, 0, 1, marked());
-    show(0, 0, 2, marked());
-    show(0, 0, 3, marked());
-    show(0, 0, 4, marked());
-    show(0, 0, 5, marked());
-    show(21, 9223372036854775807, 5, marked());
-    io::write_all(1, b"negative numbers\n");
-    show(0, 0, 1, sunken());
-    show(1, 0, 1, sunken());
-    show(2, 63, 4, sunken());
-    io::write_all(1, b"zero is +0\n");
-    show(1, 0, 1, centred());
-    show(1, 0, 3, centred());
-    io::write_all(1, b"flat and folded\n");
-    show(2, 17, 4, flat());
-    show(2, 17, 4, folded());
-    io::write_all(1, b"refused\n");
-    show(22, 0, 6, wide());
-    show(1, 8, 6, wide());
-    show(1, 7, 6, wide());
-    show(1, 7, 5, wide());
+fn main(rt: HostRuntime) -> io::Result<()> {
+    println!(rt; "the marked root")?;
+    show(&rt, 1, 6, 1, marked())?;
+    show(&rt, 0, 0, 0, marked())?;
+    show(&rt, 0, 0, 1, marked())?;
+    show(&rt, 0, 0, 2, marked())?;
+    show(&rt, 0, 0, 3, marked())?;
+    show(&rt, 0, 0, 4, marked())?;
+    show(&rt, 0, 0, 5, marked())?;
+    show(&rt, 21, 9223372036854775807, 5, marked())?;
+    println!(rt; "negative numbers")?;
+    show(&rt, 0, 0, 1, sunken())?;
+    show(&rt, 1, 0, 1, sunken())?;
+    show(&rt, 2, 63, 4, sunken())?;
+    println!(rt; "zero is +0")?;
+    show(&rt, 1, 0, 1, centred())?;
+    show(&rt, 1, 0, 3, centred())?;
+    println!(rt; "flat and folded")?;
+    show(&rt, 2, 17, 4, flat())?;
+    show(&rt, 2, 17, 4, folded())?;
+    println!(rt; "refused")?;
+    show(&rt, 22, 0, 6, wide())?;
+    show(&rt, 1, 8, 6, wide())?;
+    show(&rt, 1, 7, 6, wide())?;
+    show(&rt, 1, 7, 5, wide())
 }
