@@ -11,7 +11,7 @@ returns-then-bytes-at c =
     sym (no_byte a.bytes.now a.at c.if-bytes-at.true)
 
 pub overflow_cast-low : goal.overflow_cast-low
-overflow_cast-low c = omega (arith, c.shared_slice_known-1.given c.args.at)
+overflow_cast-low c = omega (arith, c.type_inv.bytes c.args.at)
 
 pub returns-then-low-lt128 : goal.returns-then-low-lt128
 returns-then-low-lt128 c =
@@ -24,7 +24,7 @@ returns-then-bytes-second c =
     sym (no_second a.bytes.now a.at c.if-bytes-at.false c.if-low-lt128.false c.if-bytes-second.true)
 
 pub overflow_cast-middle : goal.overflow_cast-middle
-overflow_cast-middle c = omega (arith, c.shared_slice_known-2-1.given (c.args.at + 1))
+overflow_cast-middle c = omega (arith, c.type_inv.bytes (c.args.at + 1))
 
 pub returns-then-middle-eq0 : goal.returns-then-middle-eq0
 returns-then-middle-eq0 c =
@@ -32,7 +32,7 @@ returns-then-middle-eq0 c =
     sym (second_zero a.bytes.now a.at c.if-bytes-at.false c.if-low-lt128.false c.if-bytes-second.false c.if-middle-eq0.true)
 
 pub overflow_add-result : goal.overflow_add-result
-overflow_add-result c = omega (arith, c.shared_slice_known-1.given c.args.at)
+overflow_add-result c = omega (arith, c.type_inv.bytes c.args.at)
 
 pub returns-then-middle-lt128 : goal.returns-then-middle-lt128
 returns-then-middle-lt128 c =
@@ -45,7 +45,7 @@ returns-then-bytes-at-2 c =
     sym (no_third a.bytes.now a.at c.if-bytes-at.false c.if-low-lt128.false c.if-bytes-second.false c.if-middle-eq0.false c.if-middle-lt128.false c.if-bytes-at-2.true)
 
 pub overflow_cast-high : goal.overflow_cast-high
-overflow_cast-high c = omega (arith, c.shared_slice_known-3-1.given (c.args.at + 2))
+overflow_cast-high c = omega (arith, c.type_inv.bytes (c.args.at + 2))
 
 pub returns-then-high-eq0 : goal.returns-then-high-eq0
 returns-then-high-eq0 c =
@@ -59,17 +59,17 @@ returns-then-high-ge128 c =
 
 pub overflow_mul-result-2 : goal.overflow_mul-result-2
 overflow_mul-result-2 c =
-    omega (arith, c.shared_slice_known-2-1.given (c.args.at + 1))
+    omega (arith, c.type_inv.bytes (c.args.at + 1))
 
 pub overflow_add-result-2 : goal.overflow_add-result-2
 overflow_add-result-2 c =
     let a = c.args in
-    omega (arith, c.shared_slice_known-1.given a.at, c.shared_slice_known-2-1.given (a.at + 1))
+    omega (arith, c.type_inv.bytes a.at, c.type_inv.bytes (a.at + 1))
 
 pub overflow_add-result-3 : goal.overflow_add-result-3
 overflow_add-result-3 c =
     let a = c.args in
-    omega (arith, c.shared_slice_known-1.given a.at, c.shared_slice_known-2-1.given (a.at + 1))
+    omega (arith, c.type_inv.bytes a.at, c.type_inv.bytes (a.at + 1))
 
 pub returns : goal.returns
 returns c =

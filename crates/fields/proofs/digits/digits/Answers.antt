@@ -21,7 +21,7 @@ bounds-input-at c = omega arith
 
 pub overflow_cast-b : goal.overflow_cast-b
 overflow_cast-b c =
-    omega (arith, c.shared_slice_known-1.given (c.args.at + c.loop-k.k))
+    omega (arith, c.type_inv.input (c.args.at + c.loop-k.k))
 
 pub returns-then-b-lt48 : goal.returns-then-b-lt48
 returns-then-b-lt48 c = passing_low c.loop-k.invariant (omega (arith, c.if-b-lt48.true))

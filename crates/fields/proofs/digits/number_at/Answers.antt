@@ -1,6 +1,5 @@
 -- `number_at` meets its contract: each way out is one case of what a number is. Assumes nothing.
 use mathlib.Core.Path.{sym, ◌∙◌}
-use borrow.Author.Tests.{not-true, not-false}
 use Rattle.fields.proofs.Judging.{number_missing, number_none, number_open, number_zero, number_is}
 use Rattle.fields.proofs.digits.number_at.Goals as goal
 
@@ -15,18 +14,18 @@ returns-then-run-eq0 c =
 pub returns-then-not-ends : goal.returns-then-not-ends
 returns-then-not-ends c =
     let a = c.args in
-    number_open a.input.now a.at c.digits-run.result c.digits-run.ensures (sym c.ends.ensures ∙ not-true _ c.if-not-ends.true-raw)
+    number_open a.input.now a.at c.digits-run.result c.digits-run.ensures (sym c.ends.ensures ∙ c.if-not-ends.true)
 
 pub returns-then-leading_zero : goal.returns-then-leading_zero
 returns-then-leading_zero c =
     let a = c.args in
-    let closed = sym c.ends.ensures ∙ not-false _ c.if-not-ends.false-raw in
+    let closed = sym c.ends.ensures ∙ c.if-not-ends.false in
     number_zero a.input.now a.at c.digits-run.result c.digits-run.ensures c.if-run-eq0.false closed
     (sym c.leading_zero.ensures ∙ c.if-leading_zero.true)
 
 pub returns : goal.returns
 returns c =
     let a = c.args in
-    let closed = sym c.ends.ensures ∙ not-false _ c.if-not-ends.false-raw in
+    let closed = sym c.ends.ensures ∙ c.if-not-ends.false in
     number_is a.input.now a.at c.digits-run.result c.digits-run.ensures c.if-run-eq0.false closed
     (sym c.leading_zero.ensures ∙ c.if-leading_zero.false)

@@ -17,10 +17,10 @@ pub bounds-weights-count : goal.bounds-weights-count
 bounds-weights-count c = omega arith
 
 pub overflow_cast-next : goal.overflow_cast-next
-overflow_cast-next c = omega (arith, c.shared_slice_known-in-loop-count-1.given c.loop-count.count)
+overflow_cast-next c = omega (arith, c.type_inv.weights c.loop-count.count)
 
 pub overflow_add-next : goal.overflow_add-next
-overflow_add-next c = omega (arith, c.shared_slice_known-in-loop-count-1.given c.loop-count.count, c.loop-count.invariant.under, c.requires.0)
+overflow_add-next c = omega (arith, c.type_inv.weights c.loop-count.count, c.loop-count.invariant.under, c.requires.0)
 
 pub returns-then-limit-next : goal.returns-then-limit-next
 returns-then-limit-next c = record { reached = c.loop-count.invariant; next_over = λ _. c.if-limit-next.true }

@@ -18,10 +18,10 @@ pub bounds-weights-i : goal.bounds-weights-i
 bounds-weights-i c = omega arith
 
 pub overflow_cast-sum : goal.overflow_cast-sum
-overflow_cast-sum c = omega (arith, c.shared_slice_known-1.given c.loop-i.i)
+overflow_cast-sum c = omega (arith, c.type_inv.weights c.loop-i.i)
 
 pub overflow_add-sum : goal.overflow_add-sum
-overflow_add-sum c = omega (arith, c.shared_slice_known-1.given c.loop-i.i, c.requires)
+overflow_add-sum c = omega (arith, c.type_inv.weights c.loop-i.i, c.requires)
 
 pub overflow_add-i : goal.overflow_add-i
 overflow_add-i c = omega arith
@@ -32,7 +32,7 @@ loop-i-smaller c = omega arith
 pub loop-i-preserved : goal.loop-i-preserved
 loop-i-preserved c =
     let more = total_next c.args.weights.now c.loop-i.i c.loop-i-test.true in
-    (omega arith, (omega arith, omega (arith, c.shared_slice_known-1.given c.loop-i.i)))
+    (omega arith, (omega arith, omega (arith, c.type_inv.weights c.loop-i.i)))
 
 pub returns : goal.returns
 returns c =

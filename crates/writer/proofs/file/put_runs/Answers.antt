@@ -12,7 +12,7 @@ pub end-end-requires : goal.end-end-requires
 end-end-requires c = c.loop-i-test.true
 
 pub overflow_cast-level : goal.overflow_cast-level
-overflow_cast-level c = omega (arith, c.shared_slice_known-in-loop-i-1.given c.loop-i.i)
+overflow_cast-level c = omega (arith, c.type_inv.levels c.loop-i.i)
 
 pub overflow_sub-count : goal.overflow_sub-count
 overflow_sub-count c = omega (arith, c.end-end.ensures.alike.some)
@@ -23,7 +23,7 @@ overflow_cast-count c = omega (arith, c.end-end.ensures.alike.within, c.requires
 pub put-requires : goal.put-requires
 put-requires c =
     let a = c.args in
-    record { v_le_highest = omega (arith, c.shared_slice_known-in-loop-i-1.given c.loop-i.i); v_in_bounds = omega (arith, room_run a.levels.now a.start a.bytes.now c.loop-i.i c.loop-i.at c.loop-i.bytes c.loop-i.invariant c.end-end.result c.end-end.ensures) }
+    record { v_le_highest = omega (arith, c.type_inv.levels c.loop-i.i); v_in_bounds = omega (arith, room_run a.levels.now a.start a.bytes.now c.loop-i.i c.loop-i.at c.loop-i.bytes c.loop-i.invariant c.end-end.result c.end-end.ensures) }
 
 pub overflow_add-at : goal.overflow_add-at
 overflow_add-at c =

@@ -18,7 +18,7 @@ overflow_add-count c =
     let few = along_few c.args.levels.now c.loop-i.i c.loop-i.count c.loop-i.bytes c.loop-i.invariant c.requires in search rules
 
 pub overflow_cast-levels : goal.overflow_cast-levels
-overflow_cast-levels c = omega (arith, c.shared_slice_known-in-loop-i-1.given c.loop-i.i)
+overflow_cast-levels c = omega (arith, c.type_inv.levels c.loop-i.i)
 
 pub overflow_sub-end : goal.overflow_sub-end
 overflow_sub-end c = omega (arith, c.end-end.ensures.alike.some)
