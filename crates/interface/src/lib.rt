@@ -2,10 +2,10 @@
 // is what that outcome leaves; `specs/Calls.antt` has a name for each contract of a call that is lent memory.
 #![tactic(auto)]
 
-mod file_calls;
-mod line_calls;
-mod list_calls;
-mod order_calls;
-mod point_calls;
-mod prism_calls;
-mod triangle_calls;
+pub mod file_calls;
+pub mod line_calls;
+pub mod list_calls;
+pub mod order_calls;
+pub mod point_calls;
+pub mod prism_calls;
+pub mod triangle_calls;
