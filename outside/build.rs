@@ -1,4 +1,4 @@
-//! Links the proved library, a static archive that `rt staticlib interface` makes in the repository's root.
+//! Links the proved library, a static archive that `tools/build interface` makes in the repository's root.
 
 use std::env;
 use std::path::PathBuf;
@@ -12,7 +12,7 @@ fn main() {
     let archive = folder.join("libinterface.a");
     println!("cargo:rerun-if-changed={}", archive.display());
     if !archive.is_file() {
-        panic!("{} is missing; make it with `rt staticlib interface`", archive.display());
+        panic!("{} is missing; make it with `tools/build interface`", archive.display());
     }
     println!("cargo:rustc-link-search=native={}", folder.display());
     println!("cargo:rustc-link-lib=static=interface");

@@ -121,11 +121,11 @@ pub fn agree(calls: [Call; 2], input: &[u8], output: &[u8], spare: usize) {
     }
 }
 
-/// What a program prints on an input; it says nothing else, and ends well. It stands where `rt check` leaves it.
+/// What a program prints on an input; it says nothing else, and ends well. It stands where `tools/build` lays it.
 pub fn printed(name: &str, input: &[u8]) -> Vec<u8> {
     let root = PathBuf::from(env!("CARGO_MANIFEST_DIR")).join("..");
     let program = root.join("target/bin").join(name);
-    assert!(program.is_file(), "{} is missing; make it with `rt check {name}`", program.display());
+    assert!(program.is_file(), "{} is missing; make it with `tools/build {name}`", program.display());
     let mut child = Command::new(program)
         .stdin(Stdio::piped())
         .stdout(Stdio::piped())
