@@ -3,7 +3,6 @@
 mod common;
 
 use std::fs;
-use std::os::unix::fs::symlink;
 use std::path::{Path, PathBuf};
 use std::process::Command;
 
@@ -30,14 +29,22 @@ const STORED: [(&str, &[u8]); 14] = [
 /// The folders of the shell line of README.md.
 const FOLDERS: [&str; 4] = ["stored", "converted", "refused", "reasons"];
 
+/// The program in that line.
+const PROGRAM: &str = "target/bin/convert";
+
 /// That line in a shell, with something before and after it, in a folder with a new folder `stored` of the orders above.
 fn shell_line(shell: &str, before: &str, after: &str, office: &Path) -> Command {
     let root = PathBuf::from(env!("CARGO_MANIFEST_DIR")).join("..").canonicalize().expect("the repository");
     let readme = fs::read_to_string(root.join("README.md")).expect("README.md");
     let line = readme.lines().find(|line| line.contains("mkdir converted refused reasons")).expect("the line");
     let _ = fs::remove_dir_all(office);
-    fs::create_dir_all(office.join("stored")).expect("a folder");
-    symlink(root.join("target"), office.join("target")).expect("a link to the programs");
+    for folder in ["stored", "target/bin"] {
+        fs::create_dir_all(office.join(folder)).expect("a folder");
+    }
+    // No symbolic link: `rt ci` goes through all folders of the checkout, these too, and refuses one.
+    let (made, here) = (root.join(PROGRAM), office.join(PROGRAM));
+    let given = fs::hard_link(&made, &here).or_else(|_| fs::copy(&made, &here).map(drop));
+    given.expect("the program, which `tools/build convert` makes");
     for (name, bytes) in STORED {
         fs::write(office.join("stored").join(name), bytes).expect("a stored order");
     }
@@ -81,7 +88,7 @@ fn the_line_of_the_readme_stops() {
         (full, |_| ()),
         ("", |office| fs::create_dir(office.join("stored/0")).expect("a folder among the orders")),
         ("", |office| fs::create_dir(office.join("reasons")).expect("a folder of an earlier run")),
-        ("", |office| fs::remove_file(office.join("target")).expect("no program")),
+        ("", |office| fs::remove_file(office.join(PROGRAM)).expect("no program")),
         ("", |office| fs::rename(office.join("stored"), office.join("elsewhere")).expect("no orders")),
     ];
     for (before, fault) in faults {
