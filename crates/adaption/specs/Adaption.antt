@@ -1,7 +1,7 @@
 -- Document 01, "Leaf lists": "Adaption: one mark a leaf, 0 keep, 1 refine, 2 merge." n is the number of children. Definitions only.
 --
 --   child, parent    of a leaf, by its position: `Relatives` of `Laws.antt` ties them to the elements
---   children_of v     "A refined leaf gives its eight children."
+--   children_of v    "A refined leaf gives its eight children."
 --   family vs j      the n leaves from number j on "are a family": the children of one leaf, in order
 --   merging vs ms j  "Eight consecutive leaves that are a family and all carry 2", from number j on
 --   every, joined    of tests and of lists; same u v: the leaves are equal

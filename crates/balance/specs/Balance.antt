@@ -1,9 +1,9 @@
 -- Document 01, "Leaf lists": "Balanced: any two leaves that follow one another in one root differ by at most one level." Definitions only.
 --
---   near u v       the leaves u and v, if of one root, differ by at most one level
---   is_balanced vs  so do any two of vs that follow one another; balanced_after u vs: and u and the first of vs
---   balanced       the call: the tests of a list call, then yes or no
---   Balanced vs    the paper's sentence as a statement, Near u v for two leaves
+--   near u v         the leaves u and v, if of one root, differ by at most one level
+--   is_balanced vs   so do any two of vs that follow one another; balanced_after u vs: and u and the first of vs
+--   balanced         the call: the tests of a list call, then yes or no
+--   Balanced vs      the paper's sentence as a statement, Near u v for two leaves
 --
 -- Assumes nothing.
 use Rattle.std.specs.Prelude.{◌≡◌, Bool, true, not, ◌&&◌, ◌||◌, List, [], ◌∷◌, ℕ, ◌+◌, ◌≤◌, ◌<◌, leb, eqb, length}

@@ -5,14 +5,14 @@
 --
 --   two              the digit 2
 --   seventh f        what field seven meant by the old rule: an empty one 2
---   as_meant fs       the fields fs as they were meant: field seven, where there is one, as what it meant, every other as it is
---   old_read s        what the input s asked for by the old rule: its fields as they were meant, read by the rules that did not change
+--   as_meant fs      the fields fs as they were meant: field seven, where there is one, as what it meant, every other as it is
+--   old_read s       what the input s asked for by the old rule: its fields as they were meant, read by the rules that did not change
 --                    (`in_order`, `forms/specs/Forms.antt`)
---   old_output s      what the old program printed on s
+--   old_output s     what the old program printed on s
 --   line fs          the line of the fields fs: single semicolons between them, and one LF
---   unless_refused    the line t; for a refusal its line of refusal
+--   unless_refused   the line t; for a refusal its line of refusal
 --   converted s      what the converter prints on s: the line of the fields as they were meant, unless the old rule refuses
---   longest_line      no output is longer: 38 digits in seven fields, six semicolons and LF (reached)
+--   longest_line     no output is longer: 38 digits in seven fields, six semicolons and LF (reached)
 --
 -- Assumes nothing.
 use Rattle.std.specs.Prelude.{List, [], ◌∷◌, ◌++◌, ℕ, get_or, set}

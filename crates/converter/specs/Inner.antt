@@ -1,11 +1,11 @@
 -- Inner contracts: what functions ask and answer that only this house calls. A reader of the promises may skip this file. Definitions only.
 --
 --   begins k s    where the field after k others begins in the bytes s; past their end where there is none
---   gap_at s at    `at`, where an empty field begins there; else past the end
+--   gap_at s at   `at`, where an empty field begins there; else past the end
 --   gap s         where an empty field seven begins; past the end where there is none
 --   filled s at   the bytes s with a 2 put in at `at`; s itself where that is past the end
 --   Front t l n   the bytes t are the first n of l
---   is_order o     whether o accepts
+--   is_order o    whether o accepts
 --   kept t        what is printed for a line t without a gap: t itself where it is an order, else its refusal
 --
 -- Assumes nothing.

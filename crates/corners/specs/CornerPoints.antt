@@ -7,9 +7,9 @@
 --   q v X Y Z               "Q = 2^21·T0 + (T1-T0)·X + (T2-T1)·Y"
 --   negative z              whether the sign is minus, which that of zero is not
 --   coordinate z            the f64 nearest to z / 2^42, zero as +0; `Laws.antt` says that it has exactly that value
---   point_at r c             "The answer is .. a point of three f64", for the local corner c, which is (X, Y, Z)
---   corner_point l p i r     the call: "Points take a level and a position: 1, 5, 8, 24."
---   point_of                 the outcome that a PointAnswer stands for
+--   point_at r c            "The answer is .. a point of three f64", for the local corner c, which is (X, Y, Z)
+--   corner_point l p i r    the call: "Points take a level and a position: 1, 5, 8, 24."
+--   point_of                the outcome that a PointAnswer stands for
 --
 -- Not here: local corners by type (`prism/specs/Points.antt`). Assumes nothing.
 use Rattle.std.specs.Prelude.{Bool, true, false, not, ◌&&◌, [], ◌∷◌, ℕ, ◌+◌, ◌^◌, ℤ, pos, negsuc, nat_abs, ◌+ℤ◌, ◌-ℤ◌, ◌*ℤ◌, leb, ltb, get_or, Float}

@@ -6,11 +6,11 @@
 --   Near            the six numbers are from -512 to 512
 --   mix, Heights    one Tj from its two corners; what is known of the three: from -2^30 to 2^30
 --   blend           Q from the three
---   Kept, kept_at    an element and its position; the element of level u at position p, with that position
+--   Kept, kept_at   an element and its position; the element of level u at position p, with that position
 --   Tested          what the tests of the call over a column of positions have shown
---   steps_to c       the steps to corner c of a triangle's four children, for a parent of either type: a hexadecimal digit for each, 4 times the sides
+--   steps_to c      the steps to corner c of a triangle's four children, for a parent of either type: a hexadecimal digit for each, 4 times the sides
 --                   along x plus those along y; that they are the paper's is a law (`proofs/Children.antt`)
---   digit_of c t n   that of child n of a parent of type t
+--   digit_of c t n  that of child n of a parent of type t
 --   Whole s         the section s has the side of its level, one of the six corners, and the steps to it
 --   AtPosition      a position of the section's level, and its parent; in level 0 the root
 --   AtChild         a child of a parent that has children, one level above the section's

@@ -3,7 +3,7 @@
 --   IsQuotient x z   x is an f64 with exactly the value z / 2^42, "zero as +0": the sign is minus only below 0
 --   Exact            a coordinate has that value, and no other f64 has it
 --   AsDue r c a      each coordinate of the point a has exactly that value at the local corner c
---   q_at, Small       Q of one coordinate at a local corner; |Q| <= 2^51 in each of the three
+--   q_at, Small      Q of one coordinate at a local corner; |Q| <= 2^51 in each of the three
 --   Bounded          |Q| <= 2^51 in each coordinate for every local corner in the root, where every corner of every element lies (`Refusal4` of
 --                    `prism/specs/Points.antt`)
 --   pointed v        a corner of the root as a point

@@ -2,9 +2,9 @@
 -- filling three columns of f64." Definitions only.
 --
 --   PointColumns      "three columns of f64": xs, ys, zs
---   equal_lengths      whether the column of positions and the three are equally long
+--   equal_lengths     whether the column of positions and the three are equally long
 --   points l ps i r   "The result equals the single calls one by one": the point of corner i at each of the positions ps
---   corner_points      the call: "columns of different lengths are refused first", then "Checks run in the single call's order", 1, 5, 8, 24; "the
+--   corner_points     the call: "columns of different lengths are refused first", then "Checks run in the single call's order", 1, 5, 8, 24; "the
 --                     place of a 5 is the first bad index. Every position is checked before the corner number"
 --   filled found m    the columns m with the points found: an accepted call fills the three to their end
 --   SectionFilled     the contract of the call: it answers nothing beyond the points that it writes; "a refusal anywhere writes nothing"

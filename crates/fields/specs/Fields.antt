@@ -2,7 +2,7 @@
 --
 --   fields s       the line cut at its semicolons; it ends at the first LF, or where the input ends
 --   ended s        whether the line has its LF, and no byte follows
---   is_number f     "A field is 1 to 9 digits without a leading zero, except 0 itself"
+--   is_number f    "A field is 1 to 9 digits without a leading zero, except 0 itself"
 --   value f        the number that the digits say
 --
 -- Assumes nothing.

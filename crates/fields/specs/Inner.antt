@@ -6,9 +6,9 @@
 --   Reached s at n i   after the digits from `at` up to i, which say n: the field that begins at `at` is as long as they and what is left of it
 --                      at i, has another byte than digits where that has one, and says what that says after n
 --   Ran s at r         the run r is the digits from `at` on, up to the first other byte, but no more than nine
---   zero_first b many   b, the first of `many` digits, is a zero, and not the only one
---   numbered_of         the outcome that a Numbered stands for
---   number_at s at      the number in the field that begins at `at`, and where the field ends; refused 23 where it is none. Past the end of s
+--   zero_first b many  b, the first of `many` digits, is a zero, and not the only one
+--   numbered_of        the outcome that a Numbered stands for
+--   number_at s at     the number in the field that begins at `at`, and where the field ends; refused 23 where it is none. Past the end of s
 --                      there is no byte, and so no number
 --
 -- Assumes nothing.

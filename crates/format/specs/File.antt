@@ -4,14 +4,14 @@
 --
 --   tag              "the four bytes 50 47 52 31"
 --   Key, key v       what the leaves of a run have in common: their level
---   same_key          whether two keys are the same
+--   same_key         whether two keys are the same
 --   Run              a key and a leaf count
---   runs_in ks        the runs of leaves with the keys ks: each as long as the key stays
---   runs_of vs        the runs of a list
---   run_bytes rs      their pairs, in order
---   runs_file K rs    the tag, K, R, then the pairs
---   file_of K vs      the file of a list of K roots
---   keys_in rs        the keys of the leaves that the runs stand for
+--   runs_in ks       the runs of leaves with the keys ks: each as long as the key stays
+--   runs_of vs       the runs of a list
+--   run_bytes rs     their pairs, in order
+--   runs_file K rs   the tag, K, R, then the pairs
+--   file_of K vs     the file of a list of K roots
+--   keys_in rs       the keys of the leaves that the runs stand for
 --   Differs k rs     the first of the runs, if any, is of another key than k
 --   Apart rs         no run of 0, and "Neighbouring runs differ in level"
 --   AreRuns rs vs    the runs rs are those of the list vs: they stand for its leaves' keys, and are apart

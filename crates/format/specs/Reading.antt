@@ -5,26 +5,26 @@
 --   run 12 and then 22 (place = offset there), last 14."
 --   17 K outside 1 to 4,096; 18 first four bytes missing or different; 21 R outside 1 to 1,048,576, run of 0, level as in the run before
 --
---   Grid              K roots and the leaves
---   opens bs          the first four bytes are the tag
---   Head, head_at      what stands in front of the runs: K, R, and the offset of the first run; after_roots, after_runs: the tests of K and of R
---   leaf_from c l      the leaf of level l that starts at c
---   fits K c l k      k leaves of level l can start from c on, each where the one before it ended, in the K roots
---   leaves_from c l k  those leaves
---   end_from c l k     where they end
---   upto K c          the spot c is not past the last of K roots
---   Walk              how far the runs of a file were read: how many runs, with how many leaves; the level of the run before, above every
---                     level for the first run; where the list has come to; the offset of what follows
---   walk_at R N l c i  the walk with these; start i: before the first run, at offset i
---   FoundRun, run_at   the run that follows: its level, its count, and the offset of what follows it
---   keep w r          after the run r
+--   Grid                K roots and the leaves
+--   opens bs            the first four bytes are the tag
+--   Head, head_at       what stands in front of the runs: K, R, and the offset of the first run; after_roots, after_runs: the tests of K and of R
+--   leaf_from c l       the leaf of level l that starts at c
+--   fits K c l k        k leaves of level l can start from c on, each where the one before it ended, in the K roots
+--   leaves_from c l k   those leaves
+--   end_from c l k      where they end
+--   upto K c            the spot c is not past the last of K roots
+--   Walk                how far the runs of a file were read: how many runs, with how many leaves; the level of the run before, above every
+--                       level for the first run; where the list has come to; the offset of what follows
+--   walk_at R N l c i   the walk with these; start i: before the first run, at offset i
+--   FoundRun, run_at    the run that follows: its level, its count, and the offset of what follows it
+--   keep w r            after the run r
 --   after_level, after_count, after_last   "After a level", "after a count", "After the last run"
 --   Sounded           how far a file is sound: where its first fault stopped it, or its end; the leaves so far; the fault
 --   stopped w o       nothing more after w; preceded vs s: the leaves vs before those of s; go_on: the next run, if there is one
---   sound_from R w     the R runs that follow w, in turn, to the first fault
+--   sound_from R w    the R runs that follow w, in turn, to the first fault
 --   sound bs h        all runs of a file whose front is h
---   leaves_if s        the leaves, refused by the fault
---   headed, grid_at    the grid of a file whose front is known, and of a whole file
+--   leaves_if s       the leaves, refused by the fault
+--   headed, grid_at   the grid of a file whose front is known, and of a whole file
 --
 -- Assumes nothing.
 use Rattle.std.specs.Prelude.{Bool, true, not, ◌&&◌, ◌||◌, List, [], ◌∷◌, ◌++◌, ℕ, zero, suc, ◌+◌, ◌/◌, ◌%◌, ltb, eqb, length}

@@ -2,17 +2,17 @@
 -- Field four or six out of range is 17, field five above 21 is 1, too many leaves is 15 at field 7." Document 02, ticket 2: "An empty initial
 -- level is refused, whatever the template says. .. 23 at field 7 for an empty one, in its present place." Definitions only.
 --
---   given fs i        what stands in field i, counted from 1; a missing field reads like an empty one (`fault` looks for that first), and neither
---                     is a number
---   number_in fs i     the number in field i
---   outside i v K L   the refusal of the number v in field i, 0 where there is none; K and L are the numbers of fields four and five
---   number_fault       23 where a field is missing or is no number, else what else it has
---   fault fs i        the refusal of field i
---   form_in fs         the numbers of the first line, in its order
---   in_order fs whole  "fields left to right": the first of the seven with a refusal; then field 8, unless the line is whole, with no eighth field
---   read s            what the input s asks for: the form that is ordered, or its refusal with the field as place
---   longest_input      the first bytes, which decide: seven fields of nine digits, six semicolons, LF, and one byte more
---   form_of            the outcome that a FormAnswer stands for
+--   given fs i          what stands in field i, counted from 1; a missing field reads like an empty one (`fault` looks for that first), and neither
+--                       is a number
+--   number_in fs i      the number in field i
+--   outside i v K L     the refusal of the number v in field i, 0 where there is none; K and L are the numbers of fields four and five
+--   number_fault        23 where a field is missing or is no number, else what else it has
+--   fault fs i          the refusal of field i
+--   form_in fs          the numbers of the first line, in its order
+--   in_order fs whole   "fields left to right": the first of the seven with a refusal; then field 8, unless the line is whole, with no eighth field
+--   read s              what the input s asks for: the form that is ordered, or its refusal with the field as place
+--   longest_input       the first bytes, which decide: seven fields of nine digits, six semicolons, LF, and one byte more
+--   form_of             the outcome that a FormAnswer stands for
 --
 -- Assumes nothing.
 use Rattle.std.specs.Prelude.{Bool, not, ◌&&◌, List, [], ℕ, ◌-◌, ◌*◌, ◌^◌, eqb, leb, ltb, length, get_or}

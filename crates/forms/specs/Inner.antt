@@ -1,6 +1,6 @@
 -- Inner contracts: what functions ask and answer that only this house calls. A reader of the promises may skip this file. Definitions only.
 --
---   field_at s at   the field from the cursor `at` on
+--   field_at s at  the field from the cursor `at` on
 --   Taken          field i from the cursor on: its refusal, and where it has none, its number and where it ends
 --
 -- Assumes nothing.

@@ -3,10 +3,10 @@
 --
 --   Midpoint m a b     m lies half way between a and b; PrismMidpoint m a b the same of corners of a prism, in plan and in height
 --   Ends, ends i j     two corner numbers, whose midpoint is meant
---   bey_child i         the thesis's definition 3: the corners of Bey's child i, as pairs of the parent's corner numbers whose
+--   bey_child i        the thesis's definition 3: the corners of Bey's child i, as pairs of the parent's corner numbers whose
 --                      midpoints they are (its T0 reads x2 where x02 is meant)
---   bey_number t i      which of Bey's children is child i by curve number, of a parent of type t: "Bey's numbers are not curve numbers"
---   bey_prism_child i    the thesis's definition 4: the corners of child i of a prism, in the same way
+--   bey_number t i     which of Bey's children is child i by curve number, of a parent of type t: "Bey's numbers are not curve numbers"
+--   bey_prism_child i  the thesis's definition 4: the corners of child i of a prism, in the same way
 --   bey_prism_number t i   which of those is child i by curve number: 4 times the line number plus the triangle's number, Bey's
 --   Bey L              the children are Bey's, of triangles and of prisms
 --

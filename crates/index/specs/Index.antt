@@ -7,9 +7,9 @@
 --                        are zeros" (definitions 14 and 19). The first entry, of level 1, is the highest place, L - 1
 --   overlaid ts L        tuples of L places laid over each other: "(a1_(L-1), a2_(L-1), .., a1_0, a2_0)" (definition 8), read as a
 --                        binary number
---   prism_index L e       definition 22: Z, Y, X and B laid over each other
---   triangle_index L e    definition 15: Y, X and B
---   line_index e          a line by its x
+--   prism_index L e      definition 22: Z, Y, X and B laid over each other
+--   triangle_index L e   definition 15: Y, X and B
+--   line_index e         a line by its x
 --
 -- Assumes nothing.
 use Rattle.std.specs.Prelude.{cond, List, [], ◌∷◌, ℕ, zero, suc, ◌+◌, ◌-◌, ◌*◌, ◌/◌, ◌%◌, ◌^◌, leb, length}

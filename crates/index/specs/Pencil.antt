@@ -3,16 +3,16 @@
 --
 --   Row, row       a row of the page: a level, the digits of x, y and z of that level, the type there, and what is worked out from them: the
 --                  triangle's number, the prism's ("4 times the line number plus the triangle number"), the type above, which is the parent's
---   type_above x y t   the type itself where the digits of x and y agree, else the digit of y
---   row_of l x y z t   the row of level l, by its digits and its type
+--   type_above x y t  the type itself where the digits of x and y agree, else the digit of y
+--   row_of l x y z t  the row of level l, by its digits and its type
 --   page l u v w t   the rows from level l up to level 1, of an anchor of u, v and w sides and a type t. The last binary digit of u is u % 2, the
 --                  digits before it are those of u / 2
---   base8 rows     the position: the prism's numbers as the digits of a base-8 number, that of level 1 highest
---   at_root t rows  the type above level 1, of a page whose first row has type t; t itself where there is no row
---   page_of L e     the page of a prism: its anchor in sides of its level
---   row_for L e     its row, by what the library says of it: the anchor's bits at its level, its triangle's number and its own, its parent's type
---   Pencil L       of every valid prism: above level 0 its page is its row and then its parent's page; the page gives the position, and ends with
---                  type 0. Of one that is refused as outside the root it ends with type 1
+--   base8 rows       the position: the prism's numbers as the digits of a base-8 number, that of level 1 highest
+--   at_root t rows   the type above level 1, of a page whose first row has type t; t itself where there is no row
+--   page_of L e      the page of a prism: its anchor in sides of its level
+--   row_for L e      its row, by what the library says of it: the anchor's bits at its level, its triangle's number and its own, its parent's type
+--   Pencil L         of every valid prism: above level 0 its page is its row and then its parent's page; the page gives the position, and ends with
+--                    type 0. Of one that is refused as outside the root it ends with type 1
 --   example, Worked   the example of docs/PENCIL.md, row by row
 --
 -- Assumes nothing.

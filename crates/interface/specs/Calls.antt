@@ -1,7 +1,7 @@
 -- The calls over C that lend memory: what each returns is the result of its outcome, and the memory is what that outcome leaves.
 -- Definitions only.
 --
---   count_of o        the result of a call whose value is how many entries or bytes it wrote
+--   count_of o       the result of a call whose value is how many entries or bytes it wrote
 --   PointsResult, UniformResult, AdaptResult, SharesResult, WriteResult, ReadResult, OrderResult, ConvertResult
 --                    the contracts, of a call that returned r, found the memory m and left m'
 --

@@ -5,15 +5,15 @@
 --   1 level above the highest; 5 position not below children^level; 11 columns of one list unequal, input list empty or over 1,048,576;
 --   12 list doesn't cover as stated; 14 no room, place = entries needed; 15 result over 1,048,576 leaves; 17 roots outside 1 to 4,096
 --
---   limit            1,048,576: the most leaves
---   most             4,096: the most roots or shares
+--   limit              1,048,576: the most leaves
+--   most               4,096: the most roots or shares
 --   out_of_range k     "outside 1 to 4,096"
---   starts K c v     the leaf v starts where the list has come to c, in one of the K roots
---   leaf_fault K c v  the first of 1, 5, 12 that the leaf v has where the list has come to c
+--   starts K c v       the leaf v starts where the list has come to c, in one of the K roots
+--   leaf_fault K c v   the first of 1, 5, 12 that the leaf v has where the list has come to c
 --   walked K i c vs o   the leaves vs from number i on, where the list has come to c; then o
 --   listed           a list call: the tests of its numbers, its columns and its leaves; then o. in_range: the call's other number (shares)
 --                    is in range; fitting: its other columns (marks or weights, lent columns) have the lengths that they must have
---   check_list K cs   the list check
+--   check_list K cs  the list check
 --   uniform K l m    the call of a uniform start into the columns m: its leaves
 --   Started          the contract of that call: it answers how many leaves there are
 --

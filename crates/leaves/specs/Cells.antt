@@ -2,7 +2,7 @@
 --
 --   "A smallest cell is a prism of level 21. It lies in itself and in each prism reached from it by taking parents"
 --
---   element_of S v     the element that a leaf is
+--   element_of S v    the element that a leaf is
 --   Proper S v        the leaf is of a level and at a position that the shape has
 --   InLeaf S v r e    the element e of root r lies in the leaf v
 --   OneLeaf           it lies in exactly one leaf of a list

@@ -1,6 +1,6 @@
 -- Inner contracts: what functions ask and answer that only this house calls. A reader of the promises may skip this file. Definitions only.
 --
---   spot_of            the spot that a Cursor stands for
+--   spot_of           the spot that a Cursor stands for
 --
 -- Assumes nothing.
 use Rattle.leaves.specs.declared.Cursor.{Cursor}

@@ -1,25 +1,25 @@
 -- Document 01, "Leaf lists": leaves, their columns, and what a valid list is. n is the number of children, L the highest level. Definitions only.
 --
---   CHILDREN         8: the leaves are prisms, and this is their number of children
---   Leaf             "root, level, position"
---   nth vs j         leaf j of a list
---   Columns          "A list is three columns .. root, level, position": those of a list, or those lent for one
---   leaf_at cs i      the leaf that stands in entry i of the columns
---   leaves cs        all that stand in them
---   columns_of vs     the columns of some leaves
---   equal_columns cs  whether the columns are equally long
---   room cs          how many leaves stand in them, or have room
---   front vs cs      "An accepted call writes its result at the front of the lent columns .., and no further": the columns cs with the leaves vs
---                    at their front
---   first_entries N cs  the first N entries of each column
---   span n L l       how many smallest cells "a leaf of level l holds": n^(L-l)
---   begin, past      the first smallest cell of its root that a leaf holds, and the first after them
---   Spot             where a leaf may start: a root, and a smallest cell of it
+--   CHILDREN           8: the leaves are prisms, and this is their number of children
+--   Leaf               "root, level, position"
+--   nth vs j           leaf j of a list
+--   Columns            "A list is three columns .. root, level, position": those of a list, or those lent for one
+--   leaf_at cs i       the leaf that stands in entry i of the columns
+--   leaves cs          all that stand in them
+--   columns_of vs      the columns of some leaves
+--   equal_columns cs   whether the columns are equally long
+--   room cs            how many leaves stand in them, or have room
+--   front vs cs        "An accepted call writes its result at the front of the lent columns .., and no further": the columns cs with the leaves vs
+--                      at their front
+--   first_entries N cs   the first N entries of each column
+--   span n L l         how many smallest cells "a leaf of level l holds": n^(L-l)
+--   begin, past        the first smallest cell of its root that a leaf holds, and the first after them
+--   Spot               where a leaf may start: a root, and a smallest cell of it
 --   start_of, end_of   where a leaf starts, and where it ends: "if that is the end of a root, at the start of the next root"
---   Covers c vs K    the leaves start at c, "each later leaf starts where the one before it ended", "and the last ends root K-1"
---                    (that v lies in one of the K roots follows from where the last ends; it is said at each leaf as 12 is)
---   Valid K vs       "valid for K roots when the first leaf starts root 0 .."
---   uniform_list K l  "Uniform start: K roots, all at one level": leaf i is of root i / n^l, at position i % n^l
+--   Covers c vs K      the leaves start at c, "each later leaf starts where the one before it ended", "and the last ends root K-1"
+--                      (that v lies in one of the K roots follows from where the last ends; it is said at each leaf as 12 is)
+--   Valid K vs         "valid for K roots when the first leaf starts root 0 .."
+--   uniform_list K l   "Uniform start: K roots, all at one level": leaf i is of root i / n^l, at position i % n^l
 --
 -- Assumes nothing.
 use Rattle.std.specs.Prelude.{◌≡◌, Bool, cond, ◌&&◌, List, [], ◌∷◌, map, ℕ, ◌+◌, ◌-◌, ◌*◌, ◌/◌, ◌%◌, ◌^◌, ◌≤◌, ◌<◌, eqb, length, get_or, take}

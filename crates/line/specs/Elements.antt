@@ -4,9 +4,9 @@
 --   Faults: 1 level above the highest, 2 anchor 2^21 or more, or no multiple of h
 --
 --   CHILDREN, FACES, CORNERS   "children 2 ..; faces 2 ..; corners 2"
---   line_to L      lines as a shape, highest level L
+--   line_to L     lines as a shape, highest level L
 --   line          "highest level 21 for all three"
---   line_of        the outcome that a LineAnswer stands for
+--   line_of       the outcome that a LineAnswer stands for
 --
 -- Not here: several in lent columns (`Columns.antt`). Assumes nothing.
 use Rattle.std.specs.Prelude.{◌&&◌, ℕ, suc, ◌+◌, ◌-◌, ◌*◌, ltb, eqb}

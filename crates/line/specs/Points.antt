@@ -2,9 +2,9 @@
 --
 --   corners L e        x and x+h
 --   corner L e i       corner i of them
---   face_points L e i   the corner points of face i: face 0, towards x-h, is corner 0, and face 1, towards x+h, is corner 1
+--   face_points L e i  the corner points of face i: face 0, towards x-h, is corner 0, and face 1, towards x+h, is corner 1
 --   faces L e          its two ends
---   face_across i       the number of that face as the neighbour has it
+--   face_across i      the number of that face as the neighbour has it
 --
 -- Assumes nothing.
 use Rattle.std.specs.Prelude.{List, [], ◌∷◌, ℕ, ◌+◌, ◌-◌, ◌*◌}

@@ -7,7 +7,7 @@
 --                    (a level above L was refused before, so `leb` is "of the highest level")
 --   numbers N        the numbers of N leaves
 --   marked L ls ms o   the tests of the marks, where L is the highest level; then o
---   check_marks       the check of the marks alone, and of how many they are
+--   check_marks      the check of the marks alone, and of how many they are
 --
 -- Assumes nothing.
 use Rattle.std.specs.Prelude.{not, ◌&&◌, List, ℕ, leb, ltb, eqb, length, get_or}

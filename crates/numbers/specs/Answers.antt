@@ -1,7 +1,7 @@
 -- Document 01, "The right form for each place": "For each answer that is an enum, a definition gives this paper's number and
 -- values for each of the enum's cases, and the promises use that definition."
 --
---   found_of   the outcome that a FoundNumber stands for
+--   found_of  the outcome that a FoundNumber stands for
 --
 -- Assumes nothing.
 use Rattle.paper.specs.Outcome.{Outcome, accepted, refused}

@@ -2,9 +2,9 @@
 -- bytes at most." Definitions only.
 --
 --   highest         2^21 - 1, the largest number of three bytes
---   bytes_of v       the bytes of the number v
+--   bytes_of v      the bytes of the number v
 --   Found           a number that was found: its value, and the offset of what follows it
---   number_at bs i   the number whose first byte is at offset i of the bytes bs. 19 "file ends inside or before a number"; 20 "number not
+--   number_at bs i  the number whose first byte is at offset i of the bytes bs. 19 "file ends inside or before a number"; 20 "number not
 --                   shortest, or third byte with top bit"; the place is the "offset of the number's first byte"
 --
 -- Assumes nothing.

@@ -2,13 +2,13 @@
 -- bytes, and no further." The form of the contract of every call of the paper that writes into lent memory. Definitions
 -- only.
 --
---   written front l   the lent column l with front at its front
---   room_for k room a  "14 no room; place = entries or bytes needed": accepted with a where room holds k of them
---   left put o m      what a call with the outcome o leaves in the memory m: what put makes of it by the result, m itself on a refusal
---   Fulfils           the contract of a call whose outcome is due, in a run with the answer r that found the memory m and left m': the
---                     answer's reading shows the outcome, and the memory is what that outcome leaves
---   Decided C         two runs with the contract C have the same answer and leave the same memory
---   Spared f m C      where the answer's reading f is a refusal, the memory is m, what it was
+--   written front l     the lent column l with front at its front
+--   room_for k room a   "14 no room; place = entries or bytes needed": accepted with a where room holds k of them
+--   left put o m        what a call with the outcome o leaves in the memory m: what put makes of it by the result, m itself on a refusal
+--   Fulfils             the contract of a call whose outcome is due, in a run with the answer r that found the memory m and left m': the
+--                       answer's reading shows the outcome, and the memory is what that outcome leaves
+--   Decided C           two runs with the contract C have the same answer and leave the same memory
+--   Spared f m C        where the answer's reading f is a refusal, the memory is m, what it was
 --
 -- Assumes nothing.
 use Rattle.std.specs.Prelude.{◌≡◌, List, ◌++◌, ℕ, ltb, length, drop}

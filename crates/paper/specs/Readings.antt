@@ -2,7 +2,7 @@
 -- values for each of the enum's cases, and the promises use that definition."
 --
 --   value_of, truth_of, comparison_of, pass_of   the outcome that a NumberAnswer, a TruthAnswer, a CompareAnswer, a PassAnswer stands for
---   checks_of f   the outcome that a Fault stands for: number 0 is none
+--   checks_of f  the outcome that a Fault stands for: number 0 is none
 --   Finds f o    the Fault f finds what the outcome o says: it stands for o, and where it is none its place is 0
 --
 -- Assumes nothing.

@@ -1,8 +1,8 @@
 -- Document 02, ticket 1: a column of positions of prisms, "at one level". Which of them the level has not; "the place of a 5 is the first bad
 -- index". Definitions only.
 --
---   position_fault l p    5 for a position p that the level l has not
---   check_positions l ps  the check of a column: 1 for the level, then each position in turn, place = its index
+--   position_fault l p     5 for a position p that the level l has not
+--   check_positions l ps   the check of a column: 1 for the level, then each position in turn, place = its index
 --
 -- Assumes nothing.
 use Rattle.std.specs.Prelude.{List, ℕ, ◌^◌, leb, ltb}

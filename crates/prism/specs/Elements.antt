@@ -7,9 +7,9 @@
 --
 --   CHILDREN, FACES, CORNERS   "children .. 8; faces .. 5; corners .. 6"
 --   plan, upright        the two that a prism is the product of; product puts them together again
---   prism_to L            prisms as a shape, highest level L
+--   prism_to L           prisms as a shape, highest level L
 --   prism                "highest level 21 for all three"
---   prism_of              the outcome that a PrismAnswer stands for
+--   prism_of             the outcome that a PrismAnswer stands for
 --
 -- Not here: several in lent columns (`Columns.antt`). Assumes nothing.
 use Rattle.std.specs.Prelude.{not, cond, ◌&&◌, ◌||◌, ℕ, ◌+◌, ◌-◌, ◌*◌, ◌/◌, ◌%◌, ltb, eqb}

@@ -3,11 +3,11 @@
 --   Corner, lifted z p   a point p of the ground plan and a height z
 --   corners L e        "A prism is a triangle times the line from z to z+h: corners 0 to 2 at z, 3 to 5 at z+h"
 --   corner L e i       corner i of them: the triangle's, by the remainder of 3, at the line's, by the quotient
---   face_points L e i   the corner points of face i (the thesis's definition 27): of a side, those of the triangle's face at both
+--   face_points L e i  the corner points of face i (the thesis's definition 27): of a side, those of the triangle's face at both
 --                      heights; below and above, the whole triangle
---   face_table          the corners of each face by number, as the thesis's definition 27 lists them
+--   face_table         the corners of each face by number, as the thesis's definition 27 lists them
 --   faces L e          the faces by that list
---   face_across i       the number of that face as the neighbour has it
+--   face_across i      the number of that face as the neighbour has it
 --   InRoot L c         the point c lies in the root: its ground plan in the root of triangles, and its height at most 2^L
 --   OnGrid L e         e passes the checks 1, 2 and 3: its triangle does, and z is below 2^L and a multiple of the side
 --   Refusal4 L         4 means on the grid with a corner outside the root: an element is on the grid exactly when its fault is none or 4,

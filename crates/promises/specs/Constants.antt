@@ -2,7 +2,7 @@
 -- the definitions, which demand 2 ties to the children, the faces and the corners themselves (`many` in `Descendants`, `Constants` in
 -- `tree/specs/Laws.antt`). Definitions only.
 --
---   counts_of S     the constants of a shape
+--   counts_of S    the constants of a shape
 --   stated         those of all three
 --
 -- Assumes nothing.

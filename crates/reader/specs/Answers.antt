@@ -2,7 +2,7 @@
 -- values for each of the enum's cases, and the promises use that definition."
 --
 --   Size     the number of roots and of leaves of a grid
---   grid_of   the outcome that a GridAnswer stands for
+--   grid_of  the outcome that a GridAnswer stands for
 --
 -- Assumes nothing.
 use Rattle.std.specs.Prelude.{ℕ}

@@ -3,7 +3,7 @@
 --   "File reading: 11 on the columns, then byte order .., last 14": the file itself is `grid_at` of the crate `format`
 --
 --   read           the call, of the bytes bs, into the lent columns m: the grid
---   size_of g       the number of roots and of leaves of a grid
+--   size_of g      the number of roots and of leaves of a grid
 --   FileRead       the contract of the call: it answers the grid's size, and puts its leaves at the front of the columns
 --
 -- Assumes nothing.

@@ -2,12 +2,12 @@
 --
 --   word o         0 when accepted, else place·256 + number; a place is taken modulo 2^56, so that the word always holds it (no lent
 --                  column has as many entries)
---   value_or z o    the value, z on a refusal
---   pass_result     of a call with no value: the word alone
+--   value_or z o   the value, z on a refusal
+--   pass_result    of a call with no value: the word alone
 --   line_result, triangle_result, prism_result, number_result, truth_result, compare_result, point_result
 --                  what the call with the outcome o returns: on a refusal every field of the value is 0
---   grid_result     the same for a grid that was read: its roots and the number of its leaves
---   sign_of o       less is -1, same 0, greater 1
+--   grid_result    the same for a grid that was read: its roots and the number of its leaves
+--   sign_of o      less is -1, same 0, greater 1
 --
 -- Assumes nothing.
 use Rattle.std.specs.Prelude.{Bool, true, false, ℕ, ◌+◌, ◌*◌, ◌%◌, ◌^◌, ℤ, pos, negsuc}

@@ -1,17 +1,17 @@
 -- Document 01, "Elements": its tables, an entry being (x step, y step, type); and document 02's rule for the number of a triangle among its
 -- siblings. Definitions only.
 --
---   step x y t         an entry
---   child_row t i       "Children of a triangle by curve number, each as (x step, y step, type), a step being half the parent's side, two
---                      rows of four": child i of a parent of type t
---   number_of s         document 02, ticket 3: "the number of a triangle among its siblings shall be worked out as: 0 when neither anchor bit
---                      at its level is set, 3 when both are, and otherwise 1 plus its type". The step s that leads to a triangle from its
---                      parent's anchor has the two bits and the type (`step_to`, `triangle/specs/Elements.antt`). That the number is its place
---                      in the parent's row is a law (`Siblings.antt`)
---   parent_kind s       the type of the parent in whose row the step s stands; slot_of s is the two together
---   face_row t i        "Face neighbours": the neighbour across face i of a triangle of type t; its steps are minus, stay or plus
+--   step x y t           an entry
+--   child_row t i        "Children of a triangle by curve number, each as (x step, y step, type), a step being half the parent's side, two
+--                        rows of four": child i of a parent of type t
+--   number_of s          document 02, ticket 3: "the number of a triangle among its siblings shall be worked out as: 0 when neither anchor bit
+--                        at its level is set, 3 when both are, and otherwise 1 plus its type". The step s that leads to a triangle from its
+--                        parent's anchor has the two bits and the type (`step_to`, `triangle/specs/Elements.antt`). That the number is its place
+--                        in the parent's row is a law (`Siblings.antt`)
+--   parent_kind s        the type of the parent in whose row the step s stands; slot_of s is the two together
+--   face_row t i         "Face neighbours": the neighbour across face i of a triangle of type t; its steps are minus, stay or plus
 --   prism_face_row t i   the same for a prism, as (x step, y step, z step, type). A prism's neighbour itself is defined by the triangle's
---                      and the line's (`prism/specs/Elements.antt`); that these rows follow them is a law (`prism/proofs/Across.antt`)
+--                        and the line's (`prism/specs/Elements.antt`); that these rows follow them is a law (`prism/proofs/Across.antt`)
 --
 -- Assumes nothing.
 use Rattle.std.specs.Prelude.{Bool, false, cond, ◌&&◌, ◌||◌, List, [], ◌∷◌, ℕ, ◌+◌, eqb, get_or}

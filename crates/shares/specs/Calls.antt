@@ -3,7 +3,7 @@
 --   "List calls: 17, 11, then each leaf in turn 1, 5, 12 .., then .. all weights 16 (place = leaf); then .. 14"
 --   11 weights of another length; 14 no room, place = entries needed: P+1; 16 weight 0; 17 roots or shares outside 1 to 4,096
 --
---   weight_fault w    16 for a weight 0
+--   weight_fault w   16 for a weight 0
 --   shares           the call, of the columns cs with the weights ws, into a lent column: the boundaries
 --   Shared           the contract of the call: it answers nothing beyond the boundaries that it writes
 --

@@ -1,8 +1,8 @@
 -- Document 01, "The right form for each place": "For each answer that is an enum, a definition gives this paper's number and
 -- values for each of the enum's cases, and the promises use that definition." The same for the structs.
 --
---   head_of      the outcome that a HeadAnswer stands for
---   spot_of      the spot that a Cursor stands for
+--   head_of     the outcome that a HeadAnswer stands for
+--   spot_of     the spot that a Cursor stands for
 --   Tells r s   the Sounding r tells how far a file is sound: s
 --
 -- Assumes nothing.

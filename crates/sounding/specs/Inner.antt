@@ -1,6 +1,6 @@
 -- Inner contracts: what functions ask and answer that only this house calls. A reader of the promises may skip this file. Definitions only.
 --
---   run_of      the outcome that a RunAnswer stands for
+--   run_of     the outcome that a RunAnswer stands for
 --   Standing   what the functions ask of their numbers: shifts and sums stay in their words
 --
 -- Assumes nothing.

@@ -8,15 +8,15 @@
 --   decimal n        the number n in decimal digits, without a leading zero except 0 itself: the digits of n / 10, and then the last one
 --   counted n b      the number n, and the byte b after it: a blank, or LF at the end of a line
 --   entry word n b   a word, and a number with the byte after it
---   first_line f      "The first line repeats fields 1, 2, 3 and 4, then level used, leaf count, field 6"
---   share_line        "Each further line: share, first leaf, number of leaves"; the share s holds the leaves from a up to b
---   share_lines       these lines, one a share; start s is the first leaf of share s
+--   first_line f     "The first line repeats fields 1, 2, 3 and 4, then level used, leaf count, field 6"
+--   share_line       "Each further line: share, first leaf, number of leaves"; the share s holds the leaves from a up to b
+--   share_lines      these lines, one a share; start s is the first leaf of share s
 --   weights f        "all weights being 1": one for each leaf of the uniform start
---   refusal_line      "A refusal prints only `refused 23 field 7`, with its number and field"
+--   refusal_line     "A refusal prints only `refused 23 field 7`, with its number and field"
 --   printed o        all that is printed
 --   printing t room  the bytes t, for a buffer of room bytes; 14 where it has not so many: "no room; place = .. bytes needed"
 --   Prints t r m m'  the contract of a call that prints the bytes t: it answers how many they are, and they stand at the front of the lent buffer
---   longest_output    no output is longer: at most 28 bytes for each of the first line's seven entries, and 21 for each of 4,096 shares (a bound,
+--   longest_output   no output is longer: at most 28 bytes for each of the first line's seven entries, and 21 for each of 4,096 shares (a bound,
 --                    not reached)
 --
 -- Assumes nothing.

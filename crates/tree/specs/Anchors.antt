@@ -4,12 +4,12 @@
 --   HIGHEST         "highest level 21 for all three"
 --   EDGE            "one reference scale, edge 2^21 = 2,097,152"
 --   side L l        "Level l has side h = 2^(21-l)"
---   off_grid L l x   "An anchor is a multiple of h below 2^21 in each coordinate": x is not
+--   off_grid L l x  "An anchor is a multiple of h below 2^21 in each coordinate": x is not
 --   rounded L l x   the coordinate of the ancestor of level l: the multiple of its side at or below x
---   bit_at L l x     whether x is one side of level l above the ancestor of the level before: its binary place of that level
+--   bit_at L l x    whether x is one side of level l above the ancestor of the level before: its binary place of that level
 --   minus, stay, plus   a step across a face, counted in sides from -1 on: x-h, x, x+h
 --   moved h s x     x moved by the step s, with sides of length h
---   off_edge L h s x  whether that leaves the root's edge
+--   off_edge L h s x   whether that leaves the root's edge
 --
 -- Assumes nothing.
 use Rattle.std.specs.Prelude.{ℕ, ◌+◌, ◌-◌, ◌*◌, ◌/◌, ◌%◌, ◌^◌, Bool, not, ◌||◌, ◌==◌, nat_le, nat_lt}

@@ -3,7 +3,7 @@
 --
 --   Sound e        e is sound, a valid element: it passes the checks on an element
 --   Lawful         what a shape shows of its own tables: one step down and one step up undo each other, among sound elements
---   children_of f   the children of f, in order
+--   children_of f  the children of f, in order
 --   OfLevel f l    f is a sound element of level l
 --   Positions      the positions of parent, child, successor, first and last descendant; the successor is sound and of "same level" (of the others
 --                  `Lawful` and `Descendants` say it)

@@ -1,6 +1,6 @@
 -- Document 01, "Elements": positions, and the words that rest on them, over any shape. Definitions only.
 --
---   element_at l p     the element of level l at position p: "the base-8 number of the child numbers from the root down;
+--   element_at l p    the element of level l at position p: "the base-8 number of the child numbers from the root down;
 --                     base 4 and base 2 for the other shapes"
 --   position e        the position of e
 --   successor e       "position plus one, same level"

@@ -1,7 +1,7 @@
 -- Document 01, "Elements" and "Refusal numbers": several triangles in lent columns, and the call on them. Definitions only.
 --
 --   Columns          the four columns, in the order of a triangle's fields; columns makes them
---   equal_columns c   whether they are equally long
+--   equal_columns c  whether they are equally long
 --   element c i      entry i of them
 --   elements c       all of them
 --   family c         the call: "Several elements (family, order of two) are checked in turn, place = index; unequal columns give 11 first"

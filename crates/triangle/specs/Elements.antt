@@ -4,9 +4,9 @@
 --   Faults: 1 level above the highest, 2 anchor 2^21 or more, or no multiple of h, 3 type above 1, 4 outside the root
 --
 --   CHILDREN, FACES, CORNERS   "children .. 4 ..; faces .. 3 ..; corners .. 3"
---   triangle_to L   triangles as a shape, highest level L
+--   triangle_to L  triangles as a shape, highest level L
 --   triangle       "highest level 21 for all three"
---   triangle_of     the outcome that a TriangleAnswer stands for
+--   triangle_of    the outcome that a TriangleAnswer stands for
 --
 -- Not here: several in lent columns (`Columns.antt`). Assumes nothing.
 use Rattle.std.specs.Prelude.{Bool, not, ◌&&◌, ◌||◌, ℕ, zero, suc, ◌+◌, ◌-◌, ◌*◌, leb, ltb, eqb}

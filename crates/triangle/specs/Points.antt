@@ -4,9 +4,9 @@
 --   corners L e        "With anchor (x, y) a triangle of type 0 has corners (x,y), (x+h,y), (x+h,y+h); type 1 has (x,y), (x,y+h),
 --                      (x+h,y+h)"; corners_by t h x y: by type, side and anchor
 --   corner L e i       corner i of them
---   face_points L e i   "Face i of a triangle (0 to 2) is opposite corner i": the two other corners
+--   face_points L e i  "Face i of a triangle (0 to 2) is opposite corner i": the two other corners
 --   faces L e          its faces, each opposite a corner
---   face_across i       the number of that face as the neighbour has it
+--   face_across i      the number of that face as the neighbour has it
 --   InRoot L p         the point p lies in the root, the triangle (0,0), (2^L,0), (2^L,2^L): y <= x <= 2^L
 --   OnGrid L e         e passes the checks 1, 2 and 3: level at most L, x and y below 2^L and multiples of the side, type 0 or 1
 --   Refusal4 L         4 means on the grid with a corner outside the root: an element is on the grid exactly when its fault is none or 4,

@@ -1,7 +1,7 @@
 -- Inner contracts: what functions ask and answer that only this house calls. A reader of the promises may skip this file.
 -- Here: the file of a list by its levels alone. Definitions only.
 --
---   level_file K ls      the file of a list of K roots whose leaves have the levels ls
+--   level_file K ls     the file of a list of K roots whose leaves have the levels ls
 --   OneLevel ls l j n   the n levels from j on are l
 --   Alike ls i j        the leaves from i on are of one level as far as j
 --   RunEnd ls i j       the run that begins with leaf i ends before leaf j: "Neighbouring runs differ in level"
