@@ -26,10 +26,10 @@ made_length n vs ms i =
 -- what the code stores is what the turn makes
 made_is : (n : ℕ) (vs : List Leaf) (ms : List ℕ) (i t l p k : ℕ) (v : Leaf) → t ≡ turn n vs ms i → v ≡ nth vs i
     → l ≡ new_level t v.level → p ≡ new_position n t v.position → k ≡ gain n t → stretch v.root l p k ≡ made n vs ms i
-made_is n vs ms i t l p k v is_turn is_IsLeaf level position count =
+made_is n vs ms i t l p k v is_turn is_leaf level position count =
     ap (λ (x : ℕ). stretch v.root x p k) level
     ∙ ap₂ (stretch v.root (new_level t v.level)) position count
-    ∙ ap₂ (λ (w : Leaf) (x : ℕ). stretch w.root (new_level x w.level) (new_position n x w.position) (gain n x)) is_IsLeaf is_turn
+    ∙ ap₂ (λ (w : Leaf) (x : ℕ). stretch w.root (new_level x w.level) (new_position n x w.position) (gain n x)) is_leaf is_turn
 
 -- ---- one turn's numbers
 by_number : {A : Type 0} (t : ℕ) → (t ≡ 1 → A) → (t ≡ 2 → A) → ((t ≡ 1 → ⊥) → (t ≡ 2 → ⊥) → A) → A
@@ -199,7 +199,7 @@ module _ (n : ℕ) (positive : 0 < n) (vs : List Leaf) (ms : List ℕ) (m : Colu
         pub underway_next : (m'' : Columns) (v : Leaf) (t l p k g : ℕ) → v ≡ nth vs i → t ≡ turn n vs ms i → l ≡ new_level t v.level
             → p ≡ new_position n t v.position → k ≡ stride n t → g ≡ gain n t → m'' ≡ stored size (stretch v.root l p (gain n t)) m'
             → Underway (i + k) (size + g) m''
-        underway_next m'' v t l p k g is_IsLeaf is_turn level position taken gained f =
+        underway_next m'' v t l p k g is_leaf is_turn level position taken gained f =
             subst⁻¹ (λ (x : ℕ). Underway (i + x) (size + g) m'') (taken ∙ ap (stride n) is_turn)
             (subst⁻¹ (λ (x : ℕ). Underway (i + stride n (turn n vs ms i)) (size + x) m'') (gained ∙ ap (gain n) is_turn)
-            (underway_more m'' (f ∙ ap (λ (us : List Leaf). stored size us m') (made_is n vs ms i t l p (gain n t) v is_turn is_IsLeaf level position refl))))
+            (underway_more m'' (f ∙ ap (λ (us : List Leaf). stored size us m') (made_is n vs ms i t l p (gain n t) v is_turn is_leaf level position refl))))

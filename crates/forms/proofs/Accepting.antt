@@ -72,7 +72,7 @@ count_clean v some few = simp (ne_eqb v 0 (λ none. omega (arith, none)), le-ltb
 
 module _ (fs : List (List ℕ)) (seven : length fs ≡ 7) (numbers : (i : ℕ) → 1 ≤ i → i ≤ 7 → is_number (given fs i) ≡ true)
     (some_root : 1 ≤ number_in fs 4) (few_roots : number_in fs 4 ≤ most) (shallow : number_in fs 5 ≤ HIGHEST)
-    (some_Share : 1 ≤ number_in fs 6) (few_shares : number_in fs 6 ≤ most)
+    (some_share : 1 ≤ number_in fs 6) (few_shares : number_in fs 6 ≤ most)
     (not_above : number_in fs 7 ≤ number_in fs 5) (few_leaves : number_in fs 4 * CHILDREN ^ number_in fs 7 ≤ limit) where
   field_clean : (i : ℕ) → 1 ≤ i → i < 8 → fault fs i ≡ 0
   field_clean i low high =
@@ -80,7 +80,7 @@ module _ (fs : List (List ℕ)) (seven : length fs ≡ 7) (numbers : (i : ℕ) �
       ∙ outside_clean i (number_in fs i) (number_in fs 4) (number_in fs 5)
       (λ is. ap (λ (j : ℕ). out_of_range (number_in fs j)) is ∙ count_clean (number_in fs 4) some_root few_roots)
       (λ is. ap (λ (j : ℕ). ltb HIGHEST (number_in fs j)) is ∙ le-ltb HIGHEST (number_in fs 5) shallow)
-      (λ is. ap (λ (j : ℕ). out_of_range (number_in fs j)) is ∙ count_clean (number_in fs 6) some_Share few_shares)
+      (λ is. ap (λ (j : ℕ). out_of_range (number_in fs j)) is ∙ count_clean (number_in fs 6) some_share few_shares)
       (λ is. ap (λ (j : ℕ). ltb (number_in fs 5) (number_in fs j)) is ∙ le-ltb (number_in fs 5) (number_in fs 7) not_above)
       (λ is. ap (λ (j : ℕ). ltb limit (number_in fs 4 * CHILDREN ^ number_in fs j)) is ∙ le-ltb limit (number_in fs 4 * CHILDREN ^ number_in fs 7) few_leaves)
 

@@ -2,8 +2,8 @@
 -- writes nothing into the columns or buffers we lent, and it never depends on our having checked first." Definitions only.
 --
 -- That it never depends on a check before is that no public function has a `requires`; `.ci/run` looks for one. The rest is said here of every call
--- that answers a refusal or is lent memory to write into, by its contract. Every other public function has a contract `r ≡ ..`, with nothing
--- of r on the right, so that two of its results are equal, but `promised`, which answers nothing. The same over C is `OverC.antt`.
+-- that answers a refusal or is lent memory to write into, by its contract. Every other public function has a contract `result ≡ ..`, with
+-- nothing of the result on the right, so that two of its results are equal, but `promised`, which answers nothing. The same over C is `OverC.antt`.
 --
 --   Call f ns most m C     a call with the contract C that finds the memory m: two runs have the same answer and leave the same memory; where the
 --                          answer's reading f is a refusal, the memory is what it was, its number is one of ns, and its place at most `most`

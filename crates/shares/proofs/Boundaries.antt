@@ -50,13 +50,13 @@ module _ (P : ℕ) (ws : List ℕ) where
         none_above = λ i inside _. inside;
       }
 
-  module _ (some_Share : 0 < P) (weighty : Weighty ws) (some_leaf : 0 < length ws) where
+  module _ (some_share : 0 < P) (weighty : Weighty ws) (some_leaf : 0 < length ws) where
     pub boundary_none : boundary P ws 0 ≡ 0
     unfolding total
     boundary_none =
         let b = boundary P ws 0 in
         let least = count_le_total ws weighty b (boundary_largest 0).within in
-        omega (arith, boundary_under 0, mul-le-mul_left P least, le-mul_of_pos_right b some_Share)
+        omega (arith, boundary_under 0, mul-le-mul_left P least, le-mul_of_pos_right b some_share)
 
     -- ---- less than the heaviest weight short: one leaf more passes the part, and with no leaf left the part is no more than all
     next_over : (s : ℕ) → boundary P ws s < length ws → s * total ws < P * total (take (boundary P ws s + 1) ws)
@@ -67,7 +67,7 @@ module _ (P : ℕ) (ws : List ℕ) where
         omega arith
 
     some_weight : 0 < P * heaviest ws
-    some_weight = one-le-mul some_Share (omega (arith, weighty 0 some_leaf, weight_le_heaviest ws 0))
+    some_weight = one-le-mul some_share (omega (arith, weighty 0 some_leaf, weight_le_heaviest ws 0))
 
     boundary_over : (s : ℕ) → s ≤ P → s * total ws < P * total (take (boundary P ws s) ws) + P * heaviest ws
     boundary_over s inside = by (dec_lt (boundary P ws s) (length ws))

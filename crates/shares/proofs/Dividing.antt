@@ -36,13 +36,13 @@ module _ {P W s count sum : ℕ} {ws column column' : List ℕ} (d : Divided P W
 
   pub divided_more : 0 < P → W ≡ total ws → s ≤ P → (n w : ℕ) → Stopped ws (s * W / P) n w
       → Divided P W ws column (s + 1) (set column' s n) n w
-  divided_more some_Share whole inside n w t =
-      let here = stopped_boundary P some_Share s (subst (λ (v : ℕ). Stopped ws (s * v / P) n w) whole t) in
+  divided_more some_share whole inside n w t =
+      let here = stopped_boundary P some_share s (subst (λ (v : ℕ). Stopped ws (s * v / P) n w) whole t) in
       record {
         shares = omega arith;
         boundaries =
             ap₂ (λ (l : List ℕ) (j : ℕ). set l s j) d.boundaries here ∙ front_more (boundary P ws) column s (omega arith);
-        reached = reached_on P some_Share s W t.reached;
+        reached = reached_on P some_share s W t.reached;
       }
 
 -- ---- no product is too large

@@ -12,7 +12,7 @@ use Rattle.shares.specs.Shares.{total, boundary}
 use Rattle.shares.proofs.Largest.{largest_is}
 use Rattle.shares.proofs.Sums.{total_equal, total_all}
 
-module _ (P N w s : ℕ) (some_Share : 0 < P) (some_weight : 0 < w) (inside : s ≤ P) where
+module _ (P N w s : ℕ) (some_share : 0 < P) (some_weight : 0 < w) (inside : s ≤ P) where
   total_replicate : total (replicate N w) ≡ N * w
   total_replicate =
       sym (total_all (replicate N w))
@@ -44,4 +44,4 @@ module _ (P N w s : ℕ) (some_Share : 0 < P) (some_weight : 0 < w) (inside : s 
       most : (i : ℕ) → i ≤ length (replicate N w) → leb (P * total (take i (replicate N w))) (s * total (replicate N w)) ≡ true → i ≤ s * N / P
       most i below passes =
           let few : i ≤ N = rw length-replicate at below in
-          (le-div_iff_mul-le some_Share).1 (le_of_mul-le-mul_right (leb-true _ _ (sym (fits_equal i few) ∙ passes)) some_weight)
+          (le-div_iff_mul-le some_share).1 (le_of_mul-le-mul_right (leb-true _ _ (sym (fits_equal i few) ∙ passes)) some_weight)

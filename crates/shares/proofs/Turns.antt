@@ -51,11 +51,11 @@ module _ {ws : List ℕ} {limit count sum : ℕ} where
           omega (arith, t.next_over before, total_next ws count before, t.reached.summed, total_rises ws (count + 1) j more)
 
 -- ---- the limit of share s
-module _ (P : ℕ) {ws : List ℕ} (some_Share : 0 < P) (s : ℕ) {count sum : ℕ} where
+module _ (P : ℕ) {ws : List ℕ} (some_share : 0 < P) (s : ℕ) {count sum : ℕ} where
   pub stopped_boundary : Stopped ws (s * total ws / P) count sum → count ≡ boundary P ws s
   stopped_boundary t =
       let part = ap (λ (w : ℕ). P * w) t.reached.summed in
-      let under : P * total (take count ws) ≤ s * total ws = omega (arith, (le-div_iff_mul-le some_Share).0 t.reached.under) in
+      let under : P * total (take count ws) ≤ s * total ws = omega (arith, (le-div_iff_mul-le some_share).0 t.reached.under) in
       sym
       (largest_is (λ j. leb (P * total (take j ws)) (s * total ws)) (length ws) count
       record { within = t.reached.within; passes = le-leb _ _ under; none_above = most })
@@ -63,10 +63,10 @@ module _ (P : ℕ) {ws : List ℕ} (some_Share : 0 < P) (s : ℕ) {count sum : �
       most : (j : ℕ) → j ≤ length ws → leb (P * total (take j ws)) (s * total ws) ≡ true → j ≤ count
       most j inside passes =
           stopped_largest t j inside
-          ((le-div_iff_mul-le some_Share).1 (rw mul_comm (leb-true _ _ passes)))
+          ((le-div_iff_mul-le some_share).1 (rw mul_comm (leb-true _ _ passes)))
 
   -- what a share reaches, the next share has reached
   pub reached_on : (W : ℕ) → Within ws (s * W / P) count sum → Within ws ((s + 1) * W / P) count sum
   reached_on W r =
-      let part = (le-div_iff_mul-le some_Share).0 r.under in
-      record { within = r.within; summed = r.summed; under = (le-div_iff_mul-le some_Share).1 (omega (arith, more_mul s W)) }
+      let part = (le-div_iff_mul-le some_share).0 r.under in
+      record { within = r.within; summed = r.summed; under = (le-div_iff_mul-le some_share).1 (omega (arith, more_mul s W)) }
