@@ -1,7 +1,7 @@
 #!/usr/bin/env python3
 """Brings the repository's own names to today's spelling: words in snake case, types and modules in camel case.
 
-usage: python3 tools/respell.py     at the top of the checkout, once, right after /opt/rattle/port/port.py
+usage: python3 tools/respell.py     at the top of the checkout, once, right after port.py of the kit
 
 A name is a word of antt's as it stands between blanks, brackets, dots and commas. It is respelled where it is lower camel case (`elementAt`) or
 has a dash between letters (`rows-length`), in every .antt and .rt file, in the edits of definitions, and between backticks in the pages. Names
