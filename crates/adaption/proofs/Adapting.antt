@@ -1,20 +1,21 @@
 -- Each way out of adaption is one case of its call. Assumes nothing.
 use mathlib.Core.Path.{◌≡◌, refl, ap, ◌∙◌, sym}
-use mathlib.Core.Bool.{Bool, true, false, ◌&&◌, and-eq-true_iff}
+use mathlib.Core.Bool.{Bool, true, ◌&&◌, and-eq-true_iff}
 use mathlib.Core.List.{List}
 use Prim.Native.Nat.{ℕ, ◌≤◌, ◌<◌}
 use native.Mathlib.Omega.{arith}
 use lib.Dec.{ltb, eqb}
 use lib.ListN.{length}
-use borrow.Author.Tests.{eqb-true, lt-ltb, le-ltb, eq-eqb, ne_eqb}
+use borrow.Author.Tests.{eqb-true, lt-ltb, le-ltb, eq-eqb}
 use Rattle.paper.specs.Outcome.{Outcome, accepted, refused, passed, refuse_when}
 use Rattle.paper.specs.Memory.{room_for}
-use Rattle.paper.specs.Readings.{value_of}
+use Rattle.std.specs.declared.result.Result.TheVariants.{Ok, Err}
+use Rattle.paper.specs.declared.Refusal.{Refusal}
+use Rattle.paper.specs.Refusals.{number_of, place_of, outcome_of}
 use Rattle.paper.proofs.Memory.{refuses, accepts}
-use Rattle.paper.specs.declared.NumberAnswer.TheVariants as number
 use Rattle.leaves.specs.Leaves.{Leaf, Columns, leaves, equal_columns, room, front}
 use Rattle.leaves.specs.Laws.{ValidList}
-use Rattle.leaves.specs.Calls.{limit, out_of_range, listed, check_list}
+use Rattle.leaves.specs.Calls.{limit, listed, check_list}
 use Rattle.leaves.proofs.Listed.{columns_sound, listed_passed, listed_refused}
 use Rattle.columns.specs.Laying.{Room}
 use Rattle.adaption.specs.Adaption.{adapted}
@@ -24,10 +25,6 @@ use Rattle.adaption.specs.Inner.{Ready}
 use Rattle.marks.proofs.Marked.{check_is, marked_passed, marked_refused}
 use Rattle.adaption.proofs.Readiness.{ready}
 
-and-false : (a : Bool) → (a && false) ≡ false
-and-false true = refl
-and-false false = refl
-
 module _ (k : ℕ) (cs : Columns) (ms : List ℕ) (m : Columns) where
   abbrev call : Outcome (List Leaf)
   call = adapt 8 21 k cs ms m
@@ -35,20 +32,8 @@ module _ (k : ℕ) (cs : Columns) (ms : List ℕ) (m : Columns) where
   abbrev result : List Leaf
   result = adapted 8 (leaves cs) ms
 
-  pub not_adapted : (fault spot : ℕ) → call ≡ refused fault spot → Adapted k (number.Refused fault spot) cs ms m m
-  not_adapted fault spot e = refuses value_of length front call (number.Refused fault spot) m fault spot e refl
-
-  -- ---- before the leaves
-  pub roots_17 : out_of_range k ≡ true → call ≡ refused 17 0
-  roots_17 wrong = simp wrong
-
-  module _ (in_range_lem : out_of_range k ≡ false) where
-    pub marks_11 : (room cs ≡ length ms → ⊥) → call ≡ refused 11 0
-    marks_11 other = simp (in_range_lem, ne_eqb (room cs) (length ms) other, and-false (equal_columns cs))
-
-    module _ (long : room cs ≡ length ms) where
-      pub columns_11 : equal_columns m ≡ false → call ≡ refused 11 0
-      columns_11 other = simp (in_range_lem, eq-eqb (room cs) (length ms) long, other, and-false (equal_columns cs))
+  pub not_adapted : (r : Refusal) → call ≡ refused (number_of r) (place_of r) → Adapted k (Err r) cs ms m m
+  not_adapted r e = refuses outcome_of length front call (Err r) m (number_of r) (place_of r) e refl
 
   -- ---- the leaves, then the marks, then the length
   module _ (long : room cs ≡ length ms) (equal : equal_columns m ≡ true) where
@@ -99,7 +84,7 @@ module _ (k : ℕ) (cs : Columns) (ms : List ℕ) (m : Columns) where
                   let same_positions = eqb-true (length m.roots) (length m.positions) both.1 in
                   record { in_roots = omega arith; in_levels = omega arith; in_positions = omega arith }
 
-              pub is_adapted : (m' : Columns) → m' ≡ front result m → Adapted k (number.Is size) cs ms m m'
+              pub is_adapted : (m' : Columns) → m' ≡ front result m → Adapted k (Ok size) cs ms m m'
               is_adapted m' f =
-                  accepts value_of length front call (number.Is size) m result m'
+                  accepts outcome_of length front call (Ok size) m result m'
                   (sized ∙ simp (le-ltb limit (length result) (omega arith), le-ltb (room m) (length result) (omega arith))) (ap accepted exact) f

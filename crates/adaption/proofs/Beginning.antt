@@ -5,10 +5,9 @@ use mathlib.Core.Bool.{true, false}
 use mathlib.Core.List.{List}
 use Prim.Native.Nat.{ℕ, ◌+◌, ◌-◌, ◌%◌, ◌≤◌, ◌<◌}
 use native.Mathlib.Nat.{add-zero}
-use native.Mathlib.Decide.{ℕ_discrete}
 use native.Mathlib.Omega.{arith}
 use lib.ListN.{length, get_or}
-use borrow.Author.Tests.{eq-eqb, ne_eqb}
+use borrow.Author.Tests.{ne_eqb}
 use Rattle.leaves.specs.Leaves.{Leaf, nth, Columns, leaf_at, leaves, room}
 use Rattle.leaves.proofs.Columns.{nth_leaves, leaves_length}
 use Rattle.marks.specs.Marks.{mark}
@@ -22,20 +21,6 @@ module _ (ls ms : List ℕ) (i : ℕ) where
   pub record Alike (t : ℕ) : Type 0 where
     pub levels : (s : ℕ) → s < t → get_or ls (i + s) 0 ≡ get_or ls i 0
     pub marks : (s : ℕ) → s < t → mark ms (i + s) ≡ 2
-
-  pub alike_none : Alike 0
-  alike_none = record { levels = λ s less. absurd (omega arith); marks = λ s less. absurd (omega arith) }
-
-  pub alike_more : (t : ℕ) → Alike t → get_or ls (i + t) 0 ≡ get_or ls i 0 → mark ms (i + t) ≡ 2 → Alike (t + 1)
-  alike_more t so_far level two = record { levels = λ s less. one_level s less (ℕ_discrete s t); marks = λ s less. one_mark s less (ℕ_discrete s t) }
-    where
-      one_level : (s : ℕ) → s < t + 1 → Dec (s ≡ t) → get_or ls (i + s) 0 ≡ get_or ls i 0
-      one_level s less (yes here) = ap (λ (k : ℕ). get_or ls (i + k) 0) here ∙ level
-      one_level s less (no earlier) = so_far.levels s (omega arith)
-
-      one_mark : (s : ℕ) → s < t + 1 → Dec (s ≡ t) → mark ms (i + s) ≡ 2
-      one_mark s less (yes here) = ap (λ (k : ℕ). mark ms (i + k)) here ∙ two
-      one_mark s less (no earlier) = so_far.marks s (omega arith)
 
 module _ (n : ℕ) (positive : 0 < n) (cs : Columns) (ms : List ℕ) where
   pub level_at : (j : ℕ) → j < room cs → (nth (leaves cs) j).level ≡ (leaf_at cs j).level
@@ -94,20 +79,6 @@ module _ (n : ℕ) (positive : 0 < n) (cs : Columns) (ms : List ℕ) where
         above : {m : ℕ} → (m ≡ 0 → ⊥) → 0 < m
         above {m} none = omega arith
 
-    -- ---- the turn at leaf i, as the code settles it
-    module _ (t : ℕ) where
-      pub turn_none : mark ms i ≡ 2 → merging n (leaves cs) ms i ≡ false → t ≡ 0 → t ≡ turn n (leaves cs) ms i
-      turn_none two none is = is ∙ sym (simp (ne_eqb (mark ms i) 1 (λ one. omega arith), none))
-
-      pub turn_family : mark ms i ≡ 2 → merging n (leaves cs) ms i ≡ true → t ≡ mark ms i → t ≡ turn n (leaves cs) ms i
-      turn_family two some is = is ∙ two ∙ sym (simp (ne_eqb (mark ms i) 1 (λ one. omega arith), some))
-
-      pub turn_mark : Ready n cs ms → (mark ms i ≡ 2 → ⊥) → t ≡ mark ms i → t ≡ turn n (leaves cs) ms i
-      turn_mark ready other is = is ∙ by (ℕ_discrete (mark ms i) 1)
-        where
-          by : Dec (mark ms i ≡ 1) → mark ms i ≡ turn n (leaves cs) ms i
-          by (yes one) = one ∙ sym (simp (eq-eqb (mark ms i) 1 one))
-          by (no not_one) =
-              let known = ready.known i inside in
-              let zero_mark : mark ms i ≡ 0 = omega arith in
-              zero_mark ∙ sym (simp (ne_eqb (mark ms i) 1 not_one, none_unmarked other))
+    -- ---- the turn at leaf i, where it is neither refined nor merges
+    pub turn_kept : (mark ms i ≡ 1 → ⊥) → merging n (leaves cs) ms i ≡ false → 0 ≡ turn n (leaves cs) ms i
+    turn_kept other none = sym (simp (ne_eqb (mark ms i) 1 other, none))

@@ -4,27 +4,25 @@ use mathlib.Core.Path.{◌≡◌, ◌∙◌, sym, subst⁻¹}
 use mathlib.Core.List.{List}
 use Prim.Native.Nat.{ℕ, ◌+◌, ◌*◌, ◌^◌, ◌≤◌, ◌<◌}
 use native.Mathlib.Omega.{arith}
-use Rattle.leaves.specs.Leaves.{Columns, leaf_at, leaves, room}
+use Rattle.leaves.specs.Leaves.{Leaf, Columns, leaf_at, leaves, room}
 use Rattle.leaves.proofs.Columns.{leaves_length}
-use Rattle.adaption.specs.Inner.{turn, gain, new_position, Ready}
+use Rattle.adaption.specs.Inner.{turn, Ready, Turns}
 use Rattle.adaption.proofs.Turns.{Clear, Turn, turn_at}
 use Rattle.adaption.proofs.Beginning.{level_at}
-use Rattle.adaption.proofs.Passing.{run_fits}
 
 module _ (n : ℕ) (positive : 0 < n) (cs : Columns) (ms : List ℕ) (ready : Ready n cs ms) (i : ℕ) (inside : i < room cs)
     (clear : Clear n positive (leaves cs) ms i) (t : ℕ) (is_turn : t ≡ turn n (leaves cs) ms i) where
   here : Turn n positive (leaves cs) ms i
   here = turn_at n positive (leaves cs) ms i (omega (arith, leaves_length cs)) clear
 
-  pub level_below : t ≡ 1 → (leaf_at cs i).level < 255
+  level_below : t ≡ 1 → (leaf_at cs i).level < 255
   level_below one = ready.shallow i inside (here.refines (sym is_turn ∙ one))
 
-  pub level_above : t ≡ 2 → 0 < (leaf_at cs i).level
+  level_above : t ≡ 2 → 0 < (leaf_at cs i).level
   level_above two = rw (sym (level_at n positive cs ms i inside)) (here.merges (sym is_turn ∙ two)).deep
 
-  pub position_below : t ≡ 1 → n * (leaf_at cs i).position + n ≤ 2 ^ 63
+  position_below : t ≡ 1 → n * (leaf_at cs i).position + n ≤ 2 ^ 63
   position_below one = ready.narrow i inside (here.refines (sym is_turn ∙ one))
 
-  pub positions_fit : (p : ℕ) → p ≡ new_position n t (leaf_at cs i).position → p + gain n t ≤ 18446744073709551615
-  positions_fit p is =
-      subst⁻¹ (λ (q : ℕ). q + gain n t ≤ 18446744073709551615) is (run_fits n positive t (leaf_at cs i).position (ready.low i inside) position_below)
+  pub turns : (v : Leaf) → v ≡ leaf_at cs i → Turns n t v
+  turns v is = subst⁻¹ (Turns n t) is (record { shallow = level_below; deep = level_above; narrow = position_below })

@@ -38,7 +38,7 @@ module _ (n L : ℕ) (cs : Columns) (ms : List ℕ) (levels_long : room cs ≡ l
   complete (known, refinable) =
       let equal : length cs.levels ≡ length ms = sym levels_long ∙ sym long in
       sym (check_is L cs.levels ms equal)
-      ∙ faultless L cs.levels ms equal (λ none i inside. (
+      ∙ faultless L cs.levels ms equal (λ i inside. (
         simp (le-ltb 2 (mark ms i) (known i inside)),
         not_too_deep L cs.levels ms i
             (λ refined. rw (nth_leaves cs i (omega (arith, leaves_length cs))) at (refinable i (omega (arith, leaves_length cs)) refined)),

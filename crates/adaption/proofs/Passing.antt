@@ -2,8 +2,8 @@
 -- are counted, and so many are written. Assumes nothing.
 use mathlib.Core.Path.{◌≡◌, refl, ap, ap₂, ◌∙◌, sym, subst, subst⁻¹}
 use mathlib.Core.List.{List, [], ◌++◌, append-nil, append_assoc}
-use Prim.Native.Nat.{ℕ, ◌+◌, ◌*◌, ◌^◌, ◌≤◌, ◌<◌}
-use native.Mathlib.Nat.{sub-zero, add-mul, one-mul, le_trans, mul-le-mul_right, div-le_self}
+use Prim.Native.Nat.{ℕ, ◌+◌, ◌*◌, ◌≤◌, ◌<◌}
+use native.Mathlib.Nat.{sub-zero, add-mul, one-mul, le_trans, mul-le-mul_right}
 use native.Mathlib.Decide.{ℕ_discrete}
 use native.Mathlib.Omega.{arith}
 use lib.ListN.{length, length-append}
@@ -15,7 +15,7 @@ use Rattle.columns.specs.Laying.{stretch, stored, Room}
 use Rattle.columns.proofs.Stretches as stretches
 use Rattle.columns.proofs.Stretches.{front_more}
 use Rattle.adaption.specs.Adaption.{joined, gives, adapted}
-use Rattle.adaption.specs.Inner.{turn, gain, stride, new_level, new_position, made}
+use Rattle.adaption.specs.Inner.{turn, gain, stride, new_level, new_position, first_of, made}
 use Rattle.adaption.proofs.Turns.{from, from_end, Clear, Turn, turn_at}
 
 -- ---- what a turn makes
@@ -24,12 +24,11 @@ made_length n vs ms i =
     rows_length (λ t. leaf (nth vs i).root (new_level (turn n vs ms i) (nth vs i).level) (new_position n (turn n vs ms i) (nth vs i).position + t)) 0 (gain n (turn n vs ms i))
 
 -- what the code stores is what the turn makes
-made_is : (n : ℕ) (vs : List Leaf) (ms : List ℕ) (i t l p k : ℕ) (v : Leaf) → t ≡ turn n vs ms i → v ≡ nth vs i
-    → l ≡ new_level t v.level → p ≡ new_position n t v.position → k ≡ gain n t → stretch v.root l p k ≡ made n vs ms i
-made_is n vs ms i t l p k v is_turn is_leaf level position count =
-    ap (λ (x : ℕ). stretch v.root x p k) level
-    ∙ ap₂ (stretch v.root (new_level t v.level)) position count
-    ∙ ap₂ (λ (w : Leaf) (x : ℕ). stretch w.root (new_level x w.level) (new_position n x w.position) (gain n x)) is_leaf is_turn
+made_is : (n : ℕ) (vs : List Leaf) (ms : List ℕ) (i t : ℕ) (v w : Leaf) → t ≡ turn n vs ms i → v ≡ nth vs i → w ≡ first_of n t v
+    → stretch w.root w.level w.position (gain n t) ≡ made n vs ms i
+made_is n vs ms i t v w is_turn is_leaf is_first =
+    ap (λ (u : Leaf). stretch u.root u.level u.position (gain n t)) is_first
+    ∙ ap₂ (λ (u : Leaf) (x : ℕ). stretch u.root (new_level x u.level) (new_position n x u.position) (gain n x)) is_leaf is_turn
 
 -- ---- one turn's numbers
 by_number : {A : Type 0} (t : ℕ) → (t ≡ 1 → A) → (t ≡ 2 → A) → ((t ≡ 1 → ⊥) → (t ≡ 2 → ⊥) → A) → A
@@ -50,22 +49,6 @@ module _ (n : ℕ) (positive : 0 < n) where
       (λ one. simp (eq-eqb t 1 one, ne_eqb t 2 (λ two. omega arith)) (omega (arith, one-mul n)))
       (λ two. simp (ne_eqb t 1 (λ one. omega arith), eq-eqb t 2 two) (le_trans positive (subst (λ (k : ℕ). k ≤ n * n) (one-mul n) (mul-le-mul_right n positive))))
       (λ not_one not_two. simp (ne_eqb t 1 not_one, ne_eqb t 2 not_two) (omega (arith, one-mul n)))
-
-  -- a turn takes a leaf at least
-  pub stride_pos : (t : ℕ) → 0 < stride n t
-  stride_pos t =
-      by_number t
-      (λ one. simp (ne_eqb t 2 (λ two. omega arith)) (omega arith))
-      (λ two. simp (eq-eqb t 2 two) positive)
-      (λ not_one not_two. simp (ne_eqb t 2 not_two) (omega arith))
-
-  -- the positions of a run fit 64 bits
-  pub run_fits : (t p : ℕ) → p < 2 ^ 63 → (t ≡ 1 → n * p + n ≤ 2 ^ 63) → new_position n t p + gain n t ≤ 18446744073709551615
-  run_fits t p small narrow =
-      by_number t
-      (λ one. simp (eq-eqb t 1 one) (omega (arith, narrow one)))
-      (λ two. simp (ne_eqb t 1 (λ one. omega arith), eq-eqb t 2 two) (omega (arith, div-le_self p n)))
-      (λ not_one not_two. simp (ne_eqb t 1 not_one, ne_eqb t 2 not_two) (omega arith))
 
   module _ (vs : List Leaf) (ms : List ℕ) where
     -- leaf i is reached, and size leaves are made
@@ -125,11 +108,6 @@ module _ (n : ℕ) (positive : 0 < n) where
         along_next t k g is_turn taken gained =
             subst⁻¹ (λ (x : ℕ). Along (i + x) (size + g)) (taken ∙ ap (stride n) is_turn)
             (subst⁻¹ (λ (x : ℕ). Along (i + stride n (turn n vs ms i)) (size + x)) (gained ∙ ap (gain n) is_turn) along_more)
-
-    pub along_few : (i size : ℕ) → Along i size → length vs ≤ 1048576 → n ≤ 128 → size ≤ 134217728
-    along_few i size a few narrow =
-        let reached : i ≤ 1048576 = omega (arith, a.upto, few) in
-        omega (arith, a.bounded, mul-le-mul_right n reached, narrow)
 
 -- ---- the columns on the way
 room_less : (m : Columns) (d e : ℕ) → d ≤ e → Room e m → Room d m
@@ -195,11 +173,11 @@ module _ (n : ℕ) (positive : 0 < n) (vs : List Leaf) (ms : List ℕ) (m : Colu
                   ∙ front_more u.along.done (made n vs ms i) m room_after;
             }
 
-        -- the same by the code's own numbers: the turn t at the leaf v takes k leaves and makes g, the first of level l at position p
-        pub underway_next : (m'' : Columns) (v : Leaf) (t l p k g : ℕ) → v ≡ nth vs i → t ≡ turn n vs ms i → l ≡ new_level t v.level
-            → p ≡ new_position n t v.position → k ≡ stride n t → g ≡ gain n t → m'' ≡ stored size (stretch v.root l p (gain n t)) m'
+        -- the same by the code's own numbers: the turn t at the leaf v takes k leaves and makes g, the first of them w
+        pub underway_next : (m'' : Columns) (v w : Leaf) (t k g : ℕ) → v ≡ nth vs i → t ≡ turn n vs ms i → w ≡ first_of n t v
+            → k ≡ stride n t → g ≡ gain n t → m'' ≡ stored size (stretch w.root w.level w.position (gain n t)) m'
             → Underway (i + k) (size + g) m''
-        underway_next m'' v t l p k g is_leaf is_turn level position taken gained f =
+        underway_next m'' v w t k g is_leaf is_turn is_first taken gained f =
             subst⁻¹ (λ (x : ℕ). Underway (i + x) (size + g) m'') (taken ∙ ap (stride n) is_turn)
             (subst⁻¹ (λ (x : ℕ). Underway (i + stride n (turn n vs ms i)) (size + x) m'') (gained ∙ ap (gain n) is_turn)
-            (underway_more m'' (f ∙ ap (λ (us : List Leaf). stored size us m') (made_is n vs ms i t l p (gain n t) v is_turn is_leaf level position refl))))
+            (underway_more m'' (f ∙ ap (λ (us : List Leaf). stored size us m') (made_is n vs ms i t v w is_turn is_leaf is_first))))

@@ -1,7 +1,7 @@
 -- A child number has few bits: 2^bits children, and the code's shifts are the definition's products. Assumes nothing.
 use mathlib.Core.Path.{◌≡◌, ap, ◌∙◌}
-use Prim.Native.Nat.{ℕ, ◌+◌, ◌*◌, ◌%◌, ◌^◌, ◌≤◌, ◌<◌}
-use native.Mathlib.Nat.{one-mul, mul_comm, mod-eq_of_lt, lt_of_le_of_lt}
+use Prim.Native.Nat.{ℕ, ◌*◌, ◌%◌, ◌^◌, ◌≤◌, ◌<◌}
+use native.Mathlib.Nat.{one-mul, mod-eq_of_lt, lt_of_le_of_lt}
 use native.Mathlib.Omega.{arith}
 use lib.Dec.{lit<}
 use lib.Pow.{pow_mono}
@@ -11,6 +11,3 @@ few_children b small = pow_mono {i = b} {j = 7} (omega arith)
 
 pub one_shifted : (b : ℕ) → b < 8 → 1 * 2 ^ b % 2 ^ 64 ≡ 2 ^ b
 one_shifted b small = ap (λ (k : ℕ). k % 2 ^ 64) (one-mul (2 ^ b)) ∙ mod-eq_of_lt (lt_of_le_of_lt (few_children b small) (lit< tt))
-
-pub shifted_up : (b p : ℕ) → 2 ^ b * p + 2 ^ b ≤ 2 ^ 63 → p * 2 ^ b % 2 ^ 64 ≡ 2 ^ b * p
-shifted_up b p narrow = mod-eq_of_lt (omega (arith, mul_comm p (2 ^ b))) ∙ mul_comm p (2 ^ b)

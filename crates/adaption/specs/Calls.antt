@@ -8,10 +8,11 @@
 --
 -- Assumes nothing.
 use Rattle.std.specs.Prelude.{true, ◌&&◌, List, ℕ, ltb, eqb, length}
+use Rattle.std.specs.declared.result.Result.{Result}
 use Rattle.paper.specs.Outcome.{Outcome, refuse_when, mapped}
 use Rattle.paper.specs.Memory.{room_for, Fulfils}
-use Rattle.paper.specs.Readings.{value_of}
-use Rattle.paper.specs.declared.NumberAnswer.{NumberAnswer}
+use Rattle.paper.specs.Refusals.{outcome_of}
+use Rattle.paper.specs.declared.Refusal.{Refusal}
 use Rattle.tree.specs.Anchors.{HIGHEST}
 use Rattle.leaves.specs.Leaves.{CHILDREN, Leaf, Columns, leaves, equal_columns, room, front}
 use Rattle.leaves.specs.Calls.{limit, listed}
@@ -27,5 +28,5 @@ module _ (n L : ℕ) where
       (refuse_when (ltb limit (length ws)) 15
       (room_for (length ws) (room m) ws)))
 
-abbrev pub Adapted : ℕ → NumberAnswer → Columns → List ℕ → Columns → Columns → Type 0
-Adapted k r cs ms m m' = Fulfils value_of (mapped length) front (adapt CHILDREN HIGHEST k cs ms m) r m m'
+abbrev pub Adapted : ℕ → Result ℕ Refusal → Columns → List ℕ → Columns → Columns → Type 0
+Adapted k r cs ms m m' = Fulfils outcome_of (mapped length) front (adapt CHILDREN HIGHEST k cs ms m) r m m'

@@ -4,20 +4,30 @@
 -- `proofs/Turns.antt` ties it to what each leaf gives.
 --
 --   turn vs ms i     what happens at leaf i: 1 it is refined, 2 a merging family begins with it, 0 neither
+--   turn_of t        the number of a Turn of the code
 --   gain n t         how many leaves a turn makes
 --   stride n t       how many leaves a turn takes
 --   new_level, new_position   of the first leaf that a turn makes
+--   first_of t v     that leaf, of the leaf v
+--   Turns t v        its level and its position are not too large for their types
 --   made vs ms i     what the turn at leaf i makes
 --   Ready cs ms      what the pass needs of a list and its marks: columns of one length, no mark above 2; n leaves of one level, from a
 --                    position divisible by n on, are a family; no level or position that it makes is too large for its type
 --
 -- Assumes nothing.
 use Rattle.std.specs.Prelude.{◌≡◌, cond, List, ℕ, ◌+◌, ◌-◌, ◌*◌, ◌/◌, ◌%◌, ◌^◌, ◌≤◌, ◌<◌, eqb, length}
-use Rattle.leaves.specs.Leaves.{Leaf, nth, Columns, leaf_at, leaves, room}
+use Rattle.adaption.specs.declared.turn.Turn as code
+use Rattle.adaption.specs.declared.turn.Turn.TheVariants.{Keep, Refine, Merge}
+use Rattle.leaves.specs.Leaves.{Leaf, leaf, nth, Columns, leaf_at, leaves, room}
 use Rattle.leaves.specs.Calls.{limit}
 use Rattle.columns.specs.Laying.{stretch}
 use Rattle.marks.specs.Marks.{mark}
 use Rattle.adaption.specs.Adaption.{child, parent, merging}
+
+abbrev pub turn_of : code.Turn → ℕ
+turn_of Keep = 0
+turn_of Refine = 1
+turn_of Merge = 2
 
 abbrev pub new_level : ℕ → ℕ → ℕ
 new_level t l = cond (eqb t 1) (l + 1) (cond (eqb t 2) (l - 1) l)
@@ -34,6 +44,14 @@ module _ (n : ℕ) where
 
   abbrev pub new_position : ℕ → ℕ → ℕ
   new_position t p = cond (eqb t 1) (n * p) (cond (eqb t 2) (p / n) p)
+
+  abbrev pub first_of : ℕ → Leaf → Leaf
+  first_of t v = leaf v.root (new_level t v.level) (new_position t v.position)
+
+  pub record Turns (t : ℕ) (v : Leaf) : Type 0 where
+    pub shallow : t ≡ 1 → v.level < 255
+    pub deep : t ≡ 2 → 0 < v.level
+    pub narrow : t ≡ 1 → n * v.position + n ≤ 2 ^ 63
 
   abbrev pub made : List Leaf → List ℕ → ℕ → List Leaf
   made vs ms i =

@@ -1,42 +1,30 @@
-// What a turn makes, written into three columns.
+// What a turn makes, written into lent columns.
 ghost use Rattle.std.specs.Prelude.{◌≡◌, ◌+◌, ◌^◌, ◌≤◌, ◌<◌};
-ghost use Rattle.leaves.specs.Leaves.{columns};
+ghost use Rattle.columns.specs.Lent.{held, SameLoans};
 ghost use Rattle.columns.specs.Laying.{stretch, stored, Room};
-ghost use Rattle.adaption.specs.Inner.{gain};
+ghost use Rattle.adaption.specs.Inner.{turn_of, gain};
+
+use crate::turn::Turn;
+use columns::LentColumns;
+use leaves::Leaf;
 
 // The leaves that a turn makes, the first of them as given, from entry `at` of each column on.
-pub(crate) fn lay(
-    bits: u8,
-    turn: u8,
-    at: usize,
-    root: u16,
-    level: u8,
-    position: u64,
-    roots: &mut [u16],
-    levels: &mut [u8],
-    positions: &mut [u64],
-)
+pub(crate) fn lay(bits: u8, turn: Turn, at: usize, first: Leaf, lent: &mut LentColumns)
     requires bits_bound { bits < 8 }
-    requires turn_bound { position + gain (2 ^ bits) turn ≤ 18446744073709551615 }
-    requires room { Room (at + gain (2 ^ bits) turn) (columns roots.old levels.old positions.old) }
-    ensures { columns roots.new levels.new positions.new
-        ≡ stored at (stretch root level position (gain (2 ^ bits) turn))
-        (columns roots.old levels.old positions.old) }
+    requires turn_bound { first.position + gain (2 ^ bits) (turn_of turn) ≤ 18446744073709551615 }
+    requires room { Room (at + gain (2 ^ bits) (turn_of turn)) (held lent.old) }
+    ensures loans { SameLoans lent.old lent.new }
+    ensures laid { held lent.new
+        ≡ stored at (stretch first.root first.level first.position (gain (2 ^ bits) (turn_of turn))) (held lent.old) }
 {
-    if turn == 1 {
-        columns::lay(
-            at,
-            1usize << bits,
-            root,
-            level,
-            position,
-            roots,
-            levels,
-            positions,
-        );
-        return;
+    match turn {
+        Turn::Refine => {
+            columns::lay(at, 1usize << bits, first, lent);
+        }
+        Turn::Keep | Turn::Merge => {
+            lent.roots[at] = first.root;
+            lent.levels[at] = first.level;
+            lent.positions[at] = first.position;
+        }
     }
-    roots[at] = root;
-    levels[at] = level;
-    positions[at] = position;
 }

@@ -2,22 +2,20 @@
 #![tactic(auto)]
 
 ghost use Rattle.std.specs.Prelude.{◌≡◌, ◌&&◌, List, ℕ, ◌+◌, ◌<◌, leb, length};
-ghost use Rattle.paper.specs.Readings.{truth_of};
+ghost use Rattle.paper.specs.Refusals.{outcome_of};
 ghost use Rattle.tree.specs.Anchors.{HIGHEST};
 ghost use Rattle.leaves.specs.Leaves.{CHILDREN, columns, leaves};
 ghost use Rattle.balance.specs.Balance.{is_balanced, balanced};
 
-use paper::{PassAnswer, TruthAnswer};
+use leaves::LeafList;
+use paper::Refusal;
 
 // Whether any two leaves that follow one another in one root differ by at most one level. Refused: 17, 11, then 1, 5, 12 at each leaf.
-pub fn balanced(k: u16, roots: &[u16], levels: &[u8], positions: &[u64]) -> TruthAnswer
-    ensures { truth_of result ≡ balanced CHILDREN HIGHEST k
-        (columns roots.now levels.now positions.now) }
+pub fn balanced(k: u16, list: &LeafList) -> Result<bool, Refusal>
+    ensures { outcome_of result ≡ balanced CHILDREN HIGHEST k list.now }
 {
-    match leaves::check_list(k, roots, levels, positions) {
-        PassAnswer::Passed => TruthAnswer::Is(all_near(roots, levels)),
-        PassAnswer::Refused(number, place) => TruthAnswer::Refused(number, place),
-    }
+    leaves::check_list(k, list)?;
+    Ok(all_near(list.roots, list.levels))
 }
 
 // Each leaf after the first beside the one before it; positions do not matter. It reads all of them: without a way out in between they
@@ -27,11 +25,9 @@ fn all_near(roots: &[u16], levels: &[u8]) -> bool
     ensures { (positions : List ℕ) → result ≡ is_balanced (leaves (columns roots.now levels.now positions)) }
 {
     let mut all = true;
-    let mut i = 1;
-    while i < roots.len() {
+    for i in 1..roots.len() {
         let near = near_levels(levels[i - 1], levels[i]);
         all = all & ((roots[i - 1] != roots[i]) | near);
-        i += 1;
     }
     all
 }
@@ -40,7 +36,5 @@ fn all_near(roots: &[u16], levels: &[u8]) -> bool
 fn near_levels(level: u8, level2: u8) -> bool
     ensures { result ≡ (leb level (level2 + 1) && leb level2 (level + 1)) }
 {
-    let not_far_below = level as u16 <= level2 as u16 + 1;
-    let not_far_above = level2 as u16 <= level as u16 + 1;
-    not_far_below & not_far_above
+    level.abs_diff(level2) <= 1
 }

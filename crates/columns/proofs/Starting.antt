@@ -7,11 +7,12 @@ use lib.ListN.{length}
 use borrow.Author.Tests.{lt-ltb, le-ltb}
 use Rattle.paper.specs.Outcome.{refused, accepted, rows}
 use Rattle.paper.specs.Memory.{written}
-use Rattle.paper.specs.Readings.{value_of}
+use Rattle.paper.specs.Refusals.{number_of, place_of, outcome_of}
 use Rattle.paper.proofs.Front.{map_rows}
 use Rattle.paper.proofs.Memory.{refuses, accepts}
 use Rattle.tree.proofs.Digits.{power_bits}
-use Rattle.paper.specs.declared.NumberAnswer.TheVariants as number
+use Rattle.paper.specs.declared.Refusal.{Refusal}
+use Rattle.std.specs.declared.result.Result.TheVariants.{Ok, Err}
 use Rattle.leaves.specs.Leaves.{Leaf, leaf, Columns, equal_columns, room, front, uniform_list}
 use Rattle.leaves.specs.Calls.{out_of_range, uniform, Started}
 use Rattle.leaves.proofs.Starting.{leaves_shifted}
@@ -20,33 +21,21 @@ use Rattle.leaves.proofs.UniformValid.{uniform_length}
 use Rattle.columns.specs.Inner.{Filled}
 
 -- ---- the tests in turn
-module _ (k l : ℕ) (m : Columns) where
-  pub roots_17 : out_of_range k ≡ true → uniform 8 21 k l m ≡ refused 17 0
-  roots_17 wrong = simp wrong
+module _ (k l : ℕ) (m : Columns) (number : out_of_range k ≡ false) (equal : equal_columns m ≡ true) (shallow : l ≤ 21) where
+  pub many_15 : 1048576 < k * 8 ^ l → uniform 8 21 k l m ≡ refused 15 0
+  many_15 many = simp (number, equal, le-ltb 21 l shallow, lt-ltb 1048576 (k * 8 ^ l) many)
 
-  module _ (number : out_of_range k ≡ false) where
-    pub columns_11 : equal_columns m ≡ false → uniform 8 21 k l m ≡ refused 11 0
-    columns_11 wrong = simp (number, wrong)
+  module _ (few : k * 8 ^ l ≤ 1048576) where
+    pub room_14 : room m < k * 8 ^ l → uniform 8 21 k l m ≡ refused 14 (k * 8 ^ l)
+    room_14 short = simp (number, equal, le-ltb 21 l shallow, le-ltb 1048576 (k * 8 ^ l) few, lt-ltb (room m) (k * 8 ^ l) short)
 
-    module _ (equal : equal_columns m ≡ true) where
-      pub level_1 : 21 < l → uniform 8 21 k l m ≡ refused 1 0
-      level_1 deep = simp (number, equal, lt-ltb 21 l deep)
-
-      module _ (shallow : l ≤ 21) where
-        pub many_15 : 1048576 < k * 8 ^ l → uniform 8 21 k l m ≡ refused 15 0
-        many_15 many = simp (number, equal, le-ltb 21 l shallow, lt-ltb 1048576 (k * 8 ^ l) many)
-
-        module _ (few : k * 8 ^ l ≤ 1048576) where
-          pub room_14 : room m < k * 8 ^ l → uniform 8 21 k l m ≡ refused 14 (k * 8 ^ l)
-          room_14 short = simp (number, equal, le-ltb 21 l shallow, le-ltb 1048576 (k * 8 ^ l) few, lt-ltb (room m) (k * 8 ^ l) short)
-
-          pub fits : k * 8 ^ l ≤ room m → uniform 8 21 k l m ≡ accepted (uniform_list 8 21 k l)
-          fits enough = simp (number, equal, le-ltb 21 l shallow, le-ltb 1048576 (k * 8 ^ l) few, le-ltb (room m) (k * 8 ^ l) enough)
+    pub fits : k * 8 ^ l ≤ room m → uniform 8 21 k l m ≡ accepted (uniform_list 8 21 k l)
+    fits enough = simp (number, equal, le-ltb 21 l shallow, le-ltb 1048576 (k * 8 ^ l) few, le-ltb (room m) (k * 8 ^ l) enough)
 
 -- ---- what is left behind
 module _ (k l : ℕ) where
-  pub not_started : (m : Columns) (fault spot : ℕ) → uniform 8 21 k l m ≡ refused fault spot → Started k l (number.Refused fault spot) m m
-  not_started m fault spot e = refuses value_of length front (uniform 8 21 k l m) (number.Refused fault spot) m fault spot e refl
+  pub not_started : (m : Columns) (r : Refusal) → uniform 8 21 k l m ≡ refused (number_of r) (place_of r) → Started k l (Err r) m m
+  not_started m r e = refuses outcome_of length front (uniform 8 21 k l m) (Err r) m (number_of r) (place_of r) e refl
 
   -- a column that holds, for each number up to m, the answer of g about its leaf
   column : (m : ℕ) (g : Leaf → ℕ) (old new : List ℕ) → new ≡ written (rows (λ i. g (leaf (i / 2 ^ (3 * l)) l (i % 2 ^ (3 * l)))) 0 m) old
@@ -57,11 +46,11 @@ module _ (k l : ℕ) where
       ∙ ap (λ (xs : List ℕ). written xs old) (sym (map_rows g (λ i. leaf (i / 2 ^ (3 * l)) l (i % 2 ^ (3 * l))) 0 (k * 8 ^ l))))
 
   pub started : (cs cs' : Columns) (m : ℕ) → m ≡ k * 8 ^ l → Filled (3 * l) l (k * 2 ^ (3 * l)) cs cs'
-      → uniform 8 21 k l cs ≡ accepted (uniform_list 8 21 k l) → Started k l (number.Is m) cs cs'
+      → uniform 8 21 k l cs ≡ accepted (uniform_list 8 21 k l) → Started k l (Ok m) cs cs'
   started cs cs' m exact f e =
       let count = k * 2 ^ (3 * l) in
       let same = sym (leaves_shifted k l) in
-      accepts value_of length front (uniform 8 21 k l cs) (number.Is m) cs (uniform_list 8 21 k l) cs' e
+      accepts outcome_of length front (uniform 8 21 k l cs) (Ok m) cs (uniform_list 8 21 k l) cs' e
       (ap accepted (exact ∙ sym (uniform_length 8 21 k l)))
       (columns_same cs' (front (uniform_list 8 21 k l) cs)
       (column count (λ (v : Leaf). v.root) cs.roots cs'.roots f.in_roots same)

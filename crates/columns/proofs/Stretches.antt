@@ -1,21 +1,17 @@
 -- Leaves stored in columns, column by column; stored after those at the front they make the front longer. Assumes nothing.
-use mathlib.Core.Path.{◌≡◌, refl, ap, ◌∙◌, sym, subst⁻¹}
-use mathlib.Core.Bool.{Bool, true, false, cond, ◌&&◌, and-eq-true_iff}
+use mathlib.Core.Path.{◌≡◌, ap, ◌∙◌, sym}
 use mathlib.Core.List.{List, ◌++◌, map, map-append}
-use Prim.Native.Nat.{ℕ, ◌+◌, ◌-◌, ◌≤◌, ◌<◌}
-use native.Mathlib.Nat.{add-zero}
-use native.Mathlib.Decide.{dec_lt}
+use Prim.Native.Nat.{ℕ, ◌+◌, ◌≤◌}
 use native.Mathlib.Omega.{arith}
-use lib.Dec.{leb}
-use lib.ListN.{length, set, length-map}
+use lib.ListN.{length, length-map}
 use lib.Seq.{sets, length-sets}
-use borrow.Author.Tests.{le-leb, lt-leb, leb-true}
+use borrow.Author.Tests.{le-leb}
 use Rattle.paper.specs.Outcome.{rows}
 use Rattle.paper.specs.Memory.{written}
 use Rattle.paper.proofs.Front.{map_rows, sets_append, written_run, written_length}
-use Rattle.leaves.specs.Leaves.{Leaf, leaf, Columns, columns, columns_of, front}
+use Rattle.leaves.specs.Leaves.{Leaf, leaf, Columns, columns_of, front}
 use Rattle.leaves.proofs.Columns.{columns_same}
-use Rattle.columns.specs.Laying.{stretch, stored, Room, fitting, laid, Laid}
+use Rattle.columns.specs.Laying.{stretch, stored, Room, laid, Laid}
 
 -- ---- a stretch, column by column
 module _ (i r l p k : ℕ) (m m' : Columns) where
@@ -31,32 +27,6 @@ module _ (i r l p k : ℕ) (m m' : Columns) where
   pub stored_as : (g : ℕ) → g ≡ k → m' ≡ stored i (stretch r l p g) m → m' ≡ stored i (stretch r l p k) m
   stored_as g e f = f ∙ ap (λ (n : ℕ). stored i (stretch r l p n) m) e
 
--- one leaf alone
-pub stored_one : (i r l p k : ℕ) (m : Columns) → k ≡ 1
-    → columns (set m.roots i r) (set m.levels i l) (set m.positions i p) ≡ stored i (stretch r l p k) m
-stored_one i r l p k m one =
-    subst⁻¹ (λ (g : ℕ). columns (set m.roots i r) (set m.levels i l) (set m.positions i p) ≡ stored i (stretch r l p g) m) one
-    (columns_same _ (stored i (stretch r l p 1) m) refl refl (ap (set m.positions i) (sym (add-zero p))))
-
--- ---- the test of `lay`
--- an end that is tested without the sum
-pub end_within : (i k n : ℕ) → k ≤ n → leb i (n - k) ≡ leb (i + k) n
-end_within i k n less = by (dec_lt n (i + k))
-  where
-    by : Dec (n < i + k) → leb i (n - k) ≡ leb (i + k) n
-    by (yes over) = lt-leb i (n - k) (omega arith) ∙ sym (lt-leb (i + k) n over)
-    by (no inside) = le-leb i (n - k) (omega arith) ∙ sym (le-leb (i + k) n (omega arith))
-
-pub over_word : (p k : ℕ) → 18446744073709551615 - p < k → 18446744073709551615 < p + k
-over_word p k over = omega arith
-
-pub in_word : (p k : ℕ) → p < 18446744073709551616 → k ≤ 18446744073709551615 - p → p + k ≤ 18446744073709551615
-in_word p k small inside = omega arith
-
--- one test of several holds
-pub and_more : {a b r : Bool} → a ≡ true → r ≡ b → r ≡ (a && b)
-and_more {a} {b} {r} holds same = subst⁻¹ (λ (t : Bool). r ≡ (t && b)) holds same
-
 module _ (i k p : ℕ) (m : Columns) where
   -- all of them, where they fit
   pub laid_whole : p + k ≤ 18446744073709551615 → Room (i + k) m → laid i k p m ≡ k
@@ -68,26 +38,7 @@ module _ (i k p : ℕ) (m : Columns) where
         le-leb (i + k) (length m.positions) room.in_positions,
       )
 
-  pub fit_all : fitting i k p m ≡ true → (p + k ≤ 18446744073709551615) × Room (i + k) m
-  fit_all h =
-      let a = (and-eq-true_iff (leb (p + k) 18446744073709551615) _).0 h in
-      let b = (and-eq-true_iff (leb (i + k) (length m.roots)) _).0 a.1 in
-      let d = (and-eq-true_iff (leb (i + k) (length m.levels)) _).0 b.1 in (
-        leb-true (p + k) 18446744073709551615 a.0,
-        record {
-          in_roots = leb-true (i + k) (length m.roots) b.0;
-          in_levels = leb-true (i + k) (length m.levels) d.0;
-          in_positions = leb-true (i + k) (length m.positions) d.1;
-        },
-      )
-
   module _ (r l : ℕ) where
-    pub laid_none : fitting i k p m ≡ false → Laid i k r l p 0 m m
-    laid_none none = record { answer = sym (ap (λ (b : Bool). cond b k 0) none); memory = refl }
-
-    pub laid_some : (m' : Columns) → fitting i k p m ≡ true → m' ≡ stored i (stretch r l p k) m → Laid i k r l p k m m'
-    laid_some m' all f = record { answer = sym (ap (λ (b : Bool). cond b k 0) all); memory = f }
-
     -- where they fit, what was laid is all of them
     pub laid_all : (count : ℕ) (m' : Columns) → p + k ≤ 18446744073709551615 → Room (i + k) m → Laid i k r l p count m m'
         → m' ≡ stored i (stretch r l p k) m

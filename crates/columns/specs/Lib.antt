@@ -1,2 +1,3 @@
+pub mod Lent
 pub mod Laying
 pub mod Inner

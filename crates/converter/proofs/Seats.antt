@@ -1,24 +1,18 @@
 -- Where field seven begins: byte after byte, with the semicolons that are still to come. Assumes nothing.
 use mathlib.Core.Path.{◌≡◌, ap, ◌∙◌, sym}
-use mathlib.Core.Bool.{true, false}
 use mathlib.Core.List.{List, [], ◌∷◌}
 use Prim.Native.Nat.{ℕ, suc, ◌+◌, ◌-◌, ◌≤◌, ◌<◌}
 use native.Mathlib.Omega.{arith}
-use lib.Dec.{eqb}
 use lib.ListN.{length, get_or, drop, length-drop, drop_of_length-le}
 use lib.Seq.{drop-cons}
 use borrow.Author.Tests.{eq-eqb, ne_eqb}
 use Rattle.fields.specs.Fields.{lf, semicolon}
-use Rattle.fields.specs.Inner.{piece}
-use Rattle.converter.specs.Inner.{begins, gap_at, gap}
+use Rattle.converter.specs.Inner.{begins}
 
 -- at byte i, with k semicolons to come
 pub record Seat (s : List ℕ) (k i : ℕ) : Type 0 where
   pub within : i ≤ length s
   pub same : begins 6 s ≡ i + begins k (drop i s)
-
-pub seat_start : (s : List ℕ) → Seat s 6 0
-seat_start s = record { within = omega arith; same = omega arith }
 
 pub seat_here : {s : List ℕ} {k i : ℕ} → Seat s k i → k ≡ 0 → i ≡ begins 6 s
 unfolding begins
@@ -71,11 +65,3 @@ module _ {s : List ℕ} {k i : ℕ} (seat : Seat s k i) (some : k ≡ 0 → ⊥)
           within = omega arith;
           same = omega (arith, seat.same, next, ap (λ (j : ℕ). begins k (drop j s)) one);
         }
-
--- ---- whether it is empty: it ends where it begins
-module _ (s : List ℕ) (at : ℕ) (seat : at ≡ begins 6 s) where
-  pub gap_here : eqb (length (piece (drop at s))) 0 ≡ true → at ≡ gap s
-  gap_here none = sym (simp none) ∙ ap (gap_at s) seat
-
-  pub gap_none : eqb (length (piece (drop at s))) 0 ≡ false → length s + 1 ≡ gap s
-  gap_none some = sym (simp some) ∙ ap (gap_at s) seat

@@ -7,12 +7,13 @@
 -- Assumes nothing.
 use Rattle.std.specs.Prelude.{List, ℕ}
 use Rattle.paper.specs.Outcome.{Outcome}
-use Rattle.paper.specs.declared.NumberAnswer.{NumberAnswer}
+use Rattle.std.specs.declared.result.Result.{Result}
+use Rattle.paper.specs.declared.Refusal.{Refusal}
 use Rattle.text.specs.Text.{printing, Prints}
 use Rattle.converter.specs.Converter.{converted}
 
 abbrev pub convert : List ℕ → ℕ → Outcome (List ℕ)
 convert s room = printing (converted s) room
 
-abbrev pub Converts : NumberAnswer → List ℕ → List ℕ → List ℕ → Type 0
+abbrev pub Converts : Result ℕ Refusal → List ℕ → List ℕ → List ℕ → Type 0
 Converts r s m m' = Prints (converted s) r m m'

@@ -4,16 +4,13 @@
 --   gap_at s at   `at`, where an empty field begins there; else past the end
 --   gap s         where an empty field seven begins; past the end where there is none
 --   filled s at   the bytes s with a 2 put in at `at`; s itself where that is past the end
---   Front t l n   the bytes t are the first n of l
---   is_order o    whether o accepts
+--   or_past s r   where in the bytes s the answer r stands; past their end where there is none
 --   kept t        what is printed for a line t without a gap: t itself where it is an order, else its refusal
 --
 -- Assumes nothing.
-use Rattle.std.specs.Prelude.{◌≡◌, Bool, true, false, cond, List, [], ◌∷◌, ◌++◌, ℕ, zero, suc, ◌+◌, eqb, ltb, length, take, drop}
+use Rattle.std.specs.Prelude.{cond, Option, Some, None, List, [], ◌∷◌, ◌++◌, ℕ, zero, suc, ◌+◌, eqb, ltb, length, take, drop}
 use Rattle.fields.specs.Fields.{lf, semicolon}
 use Rattle.fields.specs.Inner.{piece}
-use Rattle.paper.specs.Outcome.{Outcome, accepted, refused}
-use Rattle.forms.specs.declared.Form.{Form}
 use Rattle.forms.specs.Forms.{read}
 use Rattle.converter.specs.Converter.{two, unless_refused}
 
@@ -31,13 +28,9 @@ gap s = gap_at s (begins 6 s)
 abbrev pub filled : List ℕ → ℕ → List ℕ
 filled s at = cond (ltb (length s) at) s (take at s ++ (two ∷ drop at s))
 
-abbrev pub is_order : Outcome Form → Bool
-is_order (accepted f) = true
-is_order (refused number field) = false
+abbrev pub or_past : List ℕ → Option ℕ → ℕ
+or_past s (Some at) = at
+or_past s None = length s + 1
 
 abbrev pub kept : List ℕ → List ℕ
 kept t = unless_refused (read t) t
-
-pub record Front (t l : List ℕ) (n : ℕ) : Type 0 where
-  pub long : n ≡ length t
-  pub front : take n l ≡ t

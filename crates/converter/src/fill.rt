@@ -1,49 +1,45 @@
 // The line with a 2 put in where field seven is empty.
-ghost use Rattle.std.specs.Prelude.{◌≡◌, ◌≤◌, ◌<◌, length};
-ghost use Rattle.converter.specs.Inner.{begins, Front, filled, gap};
+ghost use Rattle.std.specs.Prelude.{◌≡◌, ◌≤◌, ◌<◌, length, IfSome};
+ghost use Rattle.converter.specs.Inner.{begins, filled, gap, or_past};
 
 use fields::cut;
 
-// Where field seven begins: after six semicolons; past the input where the line has not so many.
-fn seventh(input: &[u8]) -> usize
-    ensures { result ≡ begins 6 input.now }
+// Where field seven begins: after six semicolons.
+fn seventh(input: &[u8]) -> Option<usize>
+    ensures spot { or_past input.now result ≡ begins 6 input.now }
+    ensures in_bounds { IfSome result (λ at. at ≤ length input.now) }
 {
     let mut left: u8 = 6;
-    let mut i = 0;
-    while left != 0 {
-        if input.len() <= i {
-            return input.len() + 1;
+    for (i, b) in input.iter().enumerate() {
+        if *b == b'\n' {
+            return None;
         }
-        if input[i] == b'\n' {
-            return input.len() + 1;
-        }
-        if input[i] == b';' {
+        if *b == b';' {
             left -= 1;
+            if left == 0 {
+                return Some(i + 1);
+            }
         }
-        i += 1;
     }
-    i
+    None
 }
 
-// Where an empty field seven begins; past the input where there is none.
-pub(crate) fn gap(input: &[u8]) -> usize
-    ensures { result ≡ gap input.now }
+// Where an empty field seven begins.
+pub(crate) fn gap(input: &[u8]) -> Option<usize>
+    ensures spot { or_past input.now result ≡ gap input.now }
+    ensures in_bounds { IfSome result (λ at. at ≤ length input.now) }
 {
-    let at = seventh(input);
-    if cut::ends(input, at) {
-        return at;
-    }
-    input.len() + 1
+    seventh(input).filter(|at| cut::ends(input, *at))
 }
 
-// The line with a 2 put in at `at`, at the front of a buffer, and how many bytes it has.
-pub(crate) fn fill(input: &[u8], at: usize, line: &mut [u8]) -> usize
+// The line with a 2 put in at `at`, in a buffer with room for it.
+pub(crate) fn fill<'a>(input: &[u8], at: usize, room: &'a mut [u8]) -> &'a [u8]
     requires at_in_bounds { at ≤ length input.now }
-    requires input_in_bounds { length input.now < length line.old }
-    ensures { Front (filled input.now at) line.new result }
+    requires input_in_bounds { length input.now < length room.old }
+    ensures { result.now ≡ filled input.now at }
 {
-    text::lay(line, 0, &input[..at]);
-    text::lay(line, at, b"2");
-    text::lay(line, at + 1, &input[at..]);
-    input.len() + 1
+    text::lay(room, 0, &input[..at]);
+    text::lay(room, at, b"2");
+    text::lay(room, at + 1, &input[at..]);
+    &room[..input.len() + 1]
 }

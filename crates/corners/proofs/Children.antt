@@ -10,13 +10,16 @@ use Rattle.tree.specs.Anchors.{side}
 use Rattle.tree.proofs.Anchor.{side_suc}
 use Rattle.rows.specs.Rows.{child_row}
 use Rattle.rows.proofs.Tables.{each_child}
-use Rattle.triangle.specs.Points.{Point}
+use Rattle.triangle.specs.Points.{Point, point}
 use Rattle.prism.specs.declared.Prism.{Prism}
 use Rattle.prism.specs.Elements.{prism, prism_to}
+use Rattle.prism.specs.Points.{lifted}
 use Rattle.prism.specs.Points as prisms
-use Rattle.corners.specs.declared.work.Local.{Local}
-use Rattle.corners.specs.declared.section.Section.{Section}
-use Rattle.corners.specs.Inner.{CornerRow, local_of, steps_to, digit_of, AtChild}
+use Rattle.prism.specs.Lawful.{lawful}
+use Rattle.prism.proofs.Inside.{corner_in_root}
+use Rattle.corners.specs.declared.child.Section.{Section}
+use Rattle.corners.specs.Steps.{digit_of}
+use Rattle.corners.specs.Inner.{CornerRow, AtChild}
 use Rattle.corners.proofs.LocalCorners.{room, Spans, spans, corner_row, found}
 
 -- ---- the digits: child n of a parent of type t, its corner c
@@ -53,12 +56,6 @@ step_to_lem (suc (suc zero)) few =
     (step 3 (corner_row 1 2 (lit< tt) (lit< tt)) refl refl (lit≤ tt) (lit≤ tt)) (step 3 (corner_row 1 2 (lit< tt) (lit< tt)) refl refl (lit≤ tt) (lit≤ tt))
 step_to_lem (suc (suc (suc c))) few = absurd (omega arith)
 
--- eight digits are all
-pub whole_word : (c : ℕ) → steps_to c % 2 ^ 32 ≡ steps_to c
-whole_word zero = refl
-whole_word (suc zero) = refl
-whole_word (suc (suc c)) = refl
-
 -- what the code adds up is that digit: a corner of a triangle lies in one place
 one_place : {t c s u : ℕ} → CornerRow t c s → CornerRow t c u → (s / 2 ≡ u / 2) × (s % 2 ≡ u % 2)
 one_place {t} {c} {s} {u} a b =
@@ -74,24 +71,26 @@ digit_is c t n s few_c few_t few_n row =
     omega (arith, d.along_x, d.along_y, same.0, same.1)
 
 -- ---- the corner
+abbrev local : ℕ → ℕ → ℕ → prisms.Corner
+local x y z = lifted z (point x y)
+
 shared : (x a b d h : ℕ) → d ≡ a + b → x + d * h ≡ x + a * h + b * h
 shared x a b d h is = ap (λ (k : ℕ). x + k * h) is ∙ omega (arith, add-mul a b h)
 
 below : (e : Prism) (n i h d : ℕ) → h ≡ side 21 (e.level + 1) → StepTo e.kind (n % 4) (i % 3) d
-    → ◌≡◌ {A = Local} (record { x = e.x + d / 4 * h; y = e.y + d % 4 * h; z = e.z + (n / 4 + i / 3) * h }) (local_of (prisms.corner 21 (prism.child e n) i))
+    → local (e.x + d / 4 * h) (e.y + d % 4 * h) (e.z + (n / 4 + i / 3) * h) ≡ prisms.corner 21 (prism.child e n) i
 unfolding prism_to
 below e n i h d same s =
     let sized : h ≡ side 21 (suc e.level) = same ∙ ap (side 21) (add-one e.level) in
     let row = child_row e.kind (n % 4) in
     let child : ℕ → Prism = λ m. record { x = e.x + row.x * m; y = e.y + row.y * m; z = e.z + n / 4 * m; level = suc e.level; kind = row.kind } in
-    let local : ℕ → ℕ → ℕ → Local = λ x y z. record { x = x; y = y; z = z } in
     let parts : local (e.x + d / 4 * h) (e.y + d % 4 * h) (e.z + (n / 4 + i / 3) * h)
     ≡ local ((child h).x + s.sides / 2 * h) ((child h).y + s.sides % 2 * h) ((child h).z + i / 3 * h) =
     λ k. local
     (shared e.x row.x (s.sides / 2) (d / 4) h s.along_x k)
     (shared e.y row.y (s.sides % 2) (d % 4) h s.along_y k)
     (shared e.z (n / 4) (i / 3) (n / 4 + i / 3) h refl k) in
-    parts ∙ found (child h) i h s.sides sized s.its_sides ∙ ap (λ (m : ℕ). local_of (prisms.corner 21 (child m) i)) sized
+    parts ∙ found (child h) i h s.sides sized s.its_sides ∙ ap (λ (m : ℕ). prisms.corner 21 (child m) i) sized
 
 -- ---- as the code has it
 module _ (s : Section) (e : Prism) (n : ℕ) (a : AtChild s e n) where
@@ -99,14 +98,14 @@ module _ (s : Section) (e : Prism) (n : ℕ) (a : AtChild s e n) where
   d = s.steps / 2 ^ (16 * e.kind + 4 * (n % 4)) % 16
 
   sized : s.side ≡ side 21 (e.level + 1)
-  sized = a.whole.its_side ∙ ap (side 21) a.below
+  sized = s.its_side ∙ ap (side 21) a.below
 
   pub two_types : e.kind < 2
   two_types = (room e a.sound).two_types
 
   steps_are : StepTo e.kind (n % 4) (s.corner % 3) d
   steps_are =
-      subst⁻¹ (λ (w : ℕ). StepTo e.kind (n % 4) (s.corner % 3) (w / 2 ^ (16 * e.kind + 4 * (n % 4)) % 16)) a.whole.its_steps
+      subst⁻¹ (λ (w : ℕ). StepTo e.kind (n % 4) (s.corner % 3) (w / 2 ^ (16 * e.kind + 4 * (n % 4)) % 16)) s.its_steps
       (step_to_lem (s.corner % 3) (mod-lt s.corner (lit< tt)) e.kind (n % 4) two_types (mod-lt n (lit< tt)))
 
   -- two sides are one of the parent's
@@ -116,8 +115,15 @@ module _ (s : Section) (e : Prism) (n : ℕ) (a : AtChild s e n) where
   pub in_reach : Spans e s.side (d / 4) (d % 4) (n / 4 + s.corner / 3)
   in_reach =
       spans e 2 s.side (d / 4) (d % 4) (n / 4 + s.corner / 3) doubled a.sound steps_are.few_x steps_are.few_y
-      (omega (arith, a.child, a.whole.numbered))
+      (omega (arith, a.child, s.numbered))
 
-  pub is_corner : ◌≡◌ {A = Local} (record { x = e.x + d / 4 * s.side; y = e.y + d % 4 * s.side; z = e.z + (n / 4 + s.corner / 3) * s.side })
-      (local_of (prisms.corner 21 (prism.child e n) s.corner))
+  pub is_corner : local (e.x + d / 4 * s.side) (e.y + d % 4 * s.side) (e.z + (n / 4 + s.corner / 3) * s.side)
+      ≡ prisms.corner 21 (prism.child e n) s.corner
   is_corner = below e n s.corner s.side d sized steps_are
+
+  -- a child is sound, so its corners lie in the root
+  pub in_root : prisms.InRoot 21 (local (e.x + d / 4 * s.side) (e.y + d % 4 * s.side) (e.z + (n / 4 + s.corner / 3) * s.side))
+  unfolding prism_to
+  in_root =
+      subst⁻¹ (prisms.InRoot 21) is_corner
+      (corner_in_root 21 (prism.child e n) s.corner ((lawful 21).child_sound e n a.sound a.above a.child) s.numbered)

@@ -16,9 +16,6 @@ difference (negsuc n) a b = a + suc n ≡ b
 pub record Is (z : ℤ) (a b : ℕ) : Type 0 where
   pub is : difference z a b
 
-pub of_pos : (n : ℕ) → Is (pos n) n 0
-of_pos n = record { is = omega arith }
-
 -- ---- the operations
 
 by_test : (t : Bool) (x y : ℤ) (a b : ℕ) → (T t → difference x a b) → (T (not t) → difference y a b) → difference (cond t x y) a b

@@ -1,9 +1,9 @@
 -- A word made of its hexadecimal digits, the lowest first: one more is the word modulo 16 times as much. Assumes nothing.
 use mathlib.Core.Path.{◌≡◌, ap, ◌∙◌, sym}
 use Prim.Native.Nat.{ℕ, ◌+◌, ◌*◌, ◌/◌, ◌%◌, ◌^◌, ◌<◌}
-use native.Mathlib.Nat.{add_comm, mod-lt, mod-eq_of_lt, lt_of_lt_of_le}
+use native.Mathlib.Nat.{add_comm, mod-eq_of_lt, lt_of_lt_of_le}
 use native.Mathlib.Omega.{arith}
-use lib.Pow.{pow_pos, pow_mono, shl_lt, mod-pow-add}
+use lib.Pow.{pow_mono, shl_lt, mod-pow-add}
 
 module _ (w i d : ℕ) (few : i < 8) (is : d ≡ w / 2 ^ (16 * (i / 4) + 4 * (i % 4)) % 16) where
   its_place : 16 * (i / 4) + 4 * (i % 4) ≡ 4 * i
@@ -24,7 +24,3 @@ module _ (w i d : ℕ) (few : i < 8) (is : d ≡ w / 2 ^ (16 * (i / 4) + 4 * (i 
       ∙ add_comm (w % 2 ^ (4 * i)) (w / 2 ^ (4 * i) % 16 * 2 ^ (4 * i))
       ∙ sym (mod-pow-add w 4 (4 * i))
       ∙ ap (λ (k : ℕ). w % 2 ^ k) exponent
-
-  pub still_a_word : w % 2 ^ (4 * i) + d * 2 ^ (4 * i) % 2 ^ 32 < 2 ^ 32
-  still_a_word =
-      rw one_digit_more (lt_of_lt_of_le (mod-lt w (pow_pos (4 * (i + 1)))) (pow_mono {j = 32} (omega arith)))

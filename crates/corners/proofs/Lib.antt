@@ -2,7 +2,6 @@ pub mod Differences
 pub mod Offsets
 pub mod MachineWords
 pub mod Exact
-pub mod Conjunctions
 pub mod Roots
 pub mod LocalCorners
 pub mod Call

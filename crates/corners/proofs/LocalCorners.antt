@@ -14,10 +14,10 @@ use Rattle.triangle.specs.Points.{Point, point, corners_by}
 use Rattle.triangle.proofs.Inside.{known_sides}
 use Rattle.prism.specs.declared.Prism.{Prism}
 use Rattle.prism.specs.Elements.{prism, prism_to, plan}
+use Rattle.prism.specs.Points.{lifted}
 use Rattle.prism.specs.Points as prisms
-use Rattle.prism.proofs.Laws.{grids}
-use Rattle.corners.specs.declared.work.Local.{Local}
-use Rattle.corners.specs.Inner.{CornerRow, local_of}
+use Rattle.prism.specs.Lawful.{grids}
+use Rattle.corners.specs.Inner.{CornerRow}
 
 -- what the checks on an element leave room for
 pub record Room (e : Prism) (h : ℕ) : Type 0 where
@@ -63,6 +63,10 @@ spans e k h a b c whole sound few_a few_b few_c =
     let far_z = few_sides k c h e.z few_c r.room_z in
     record { step_x = omega arith; step_y = omega arith; step_z = omega arith; to_x = far_x; to_y = far_y; to_z = far_z }
 
+-- none or one side, as the code has them
+pub reached : (e : Prism) (corner : ℕ) {h s : ℕ} → h ≡ side 21 e.level → Sound prism e × (corner < 6) → s ≤ 3 → Spans e h (s / 2) (s % 2) (corner / 3)
+reached e corner {h} is (sound, numbered) narrow = spans e 1 h _ _ _ (omega (arith, is)) sound (omega (arith, narrow)) (omega arith) (omega (arith, numbered))
+
 -- ---- the corner of a triangle by type and number
 abbrev plan_at : ℕ → ℕ → ℕ → ℕ → ℕ → Point
 plan_at t k h x y = get_or (corners_by t h x y) k (point 0 0)
@@ -99,9 +103,8 @@ corner_row t k a b = record { narrow = narrow_by t k a b; placed = placed_by t k
 
 -- ---- as a local corner
 pub found : (e : Prism) (i h s : ℕ) → h ≡ side 21 e.level → CornerRow e.kind (i % 3) s
-    → record { x = e.x + s / 2 * h; y = e.y + s % 2 * h; z = e.z + i / 3 * h } ≡ local_of (prisms.corner 21 e i)
+    → lifted (e.z + i / 3 * h) (point (e.x + s / 2 * h) (e.y + s % 2 * h)) ≡ prisms.corner 21 e i
 found e i h s same row =
     let at_h : (k : ℕ) → point (e.x + s / 2 * k) (e.y + s % 2 * k) ≡ plan_at e.kind (i % 3) k e.x e.y =
     λ k. sym (row.placed k e.x e.y) in
-    let lifted : ℕ → Point → Local = λ k p. record { x = p.x; y = p.y; z = e.z + i / 3 * k } in
-    ap (lifted h) (at_h h) ∙ ap (λ (k : ℕ). lifted k (plan_at e.kind (i % 3) k e.x e.y)) same
+    ap (lifted (e.z + i / 3 * h)) (at_h h) ∙ ap (λ (k : ℕ). lifted (e.z + i / 3 * k) (plan_at e.kind (i % 3) k e.x e.y)) same

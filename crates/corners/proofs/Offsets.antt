@@ -8,9 +8,9 @@ use native.Mathlib.Omega.{arith}
 use lib.Dec.{leb}
 use lib.IntN.{ℤ, pos, negsuc, nat_abs}
 use borrow.Author.Tests.{leb-true}
-use Rattle.prism.specs.Points.{InRoot}
+use Rattle.prism.specs.Points.{Corner, InRoot}
 use Rattle.corners.specs.declared.work.Axis.{Axis}
-use Rattle.corners.specs.declared.work.Local.{Local}
+use Rattle.corners.specs.declared.local.Local.{Local}
 use Rattle.corners.specs.CornerPoints.{within, q}
 use Rattle.corners.specs.Inner.{along, Near, mix, Heights, blend, corner_of}
 use Rattle.corners.proofs.Differences.{Is, add, mul, sub, mul_right, rename, bound}
@@ -91,12 +91,16 @@ blend_bound t0 t1 t2 X Y tall ordered inside =
     rw back at (mean t0 t1 t2 Y (X - Y) (edge - X) tall (omega arith))
 
 -- one coordinate of a point within the root
-pub axis_bound : (a : Axis) (p : Local) → Near a → InRoot 21 (corner_of p) → nat_abs (q (along a) p.x p.y p.z) ≤ 2 ^ 51
-axis_bound a p n inside =
-    blend_bound (mix a.v0 a.v3 p.z) (mix a.v1 a.v4 p.z) (mix a.v2 a.v5 p.z) p.x p.y
+pub axis_bound : (a : Axis) (c : Corner) → Near a → InRoot 21 c → nat_abs (q (along a) c.plan.x c.plan.y c.height) ≤ 2 ^ 51
+axis_bound a c n inside =
+    blend_bound (mix a.v0 a.v3 c.height) (mix a.v1 a.v4 c.height) (mix a.v2 a.v5 c.height) c.plan.x c.plan.y
     (record {
-      tall0 = height a.v0 a.v3 p.z n.near0 n.near3 inside.upwards;
-      tall1 = height a.v1 a.v4 p.z n.near1 n.near4 inside.upwards;
-      tall2 = height a.v2 a.v5 p.z n.near2 n.near5 inside.upwards;
+      tall0 = height a.v0 a.v3 c.height n.near0 n.near3 inside.upwards;
+      tall1 = height a.v1 a.v4 c.height n.near1 n.near4 inside.upwards;
+      tall2 = height a.v2 a.v5 c.height n.near2 n.near5 inside.upwards;
     })
     inside.in_plan.ordered inside.in_plan.across
+
+-- a local corner lies within the root
+pub in_root : (p : Local) → InRoot 21 (corner_of p)
+in_root p = record { in_plan = record { ordered = p.ordered; across = p.across }; upwards = p.upwards }

@@ -9,7 +9,7 @@ use lib.IntN.{ℤ, pos, ◌*ℤ◌}
 use Rattle.paper.specs.Outcome.{accepted}
 use Rattle.paper.proofs.Scan.{accepted_same, accepted_of}
 use Rattle.tree.proofs.RoundTrip.{at_sound}
-use Rattle.prism.proofs.Laws.{lawful}
+use Rattle.prism.specs.Lawful.{lawful}
 use Rattle.prism.proofs.Inside.{corner_in_root}
 use Rattle.tree.specs.Words.{element_at}
 use Rattle.prism.specs.Elements.{prism, prism_to}
@@ -19,9 +19,8 @@ use Rattle.corners.specs.declared.Root.{Root}
 use Rattle.corners.specs.declared.Point.{Point}
 use Rattle.corners.specs.CornerPoints.{corner, root_within, q, coordinate, point_at, corner_point}
 use Rattle.corners.specs.Laws.{Answers, Exact, Promised, Small, AsDue, pointed}
-use Rattle.corners.specs.Inner.{xs, ys, zs, local_of, corner_of}
 use Rattle.corners.proofs.Offsets.{axis_bound}
-use Rattle.corners.proofs.Roots.{near_xs, near_ys, near_zs}
+use Rattle.corners.proofs.Roots.{axis, near_axis, in_x, in_y, in_z}
 use Rattle.corners.proofs.Call.{point_accepted, point_refused_24}
 use Rattle.corners.proofs.RootCorners.{at_0, at_1, at_2, at_3, at_4, at_5, whole}
 use Rattle.corners.proofs.SectionAccepted.{accepts_there, accepts_back}
@@ -39,14 +38,10 @@ exact =
 
 small : (r : Root) (c : prisms.Corner) → root_within r ≡ true → prisms.InRoot 21 c → Small r c
 small r c near inside =
-    let p = local_of c in
-    let plan = inside.in_plan in
-    let at_c : prisms.InRoot 21 (corner_of p) =
-    record { in_plan = record { ordered = plan.ordered; across = plan.across }; upwards = inside.upwards } in
     record {
-      in_x = axis_bound (xs r) p (near_xs r near) at_c;
-      in_y = axis_bound (ys r) p (near_ys r near) at_c;
-      in_z = axis_bound (zs r) p (near_zs r near) at_c;
+      in_x = axis_bound (axis (λ v. v.x) r) c (near_axis _ in_x r near) inside;
+      in_y = axis_bound (axis (λ v. v.y) r) c (near_axis _ in_y r near) inside;
+      in_z = axis_bound (axis (λ v. v.z) r) c (near_axis _ in_z r near) inside;
     }
 
 -- ---- an answer is as due

@@ -1,7 +1,7 @@
 -- The call over a column of positions accepts exactly when the single call accepts every position, and entry k of the columns is then its point
 -- at position k. Assumes nothing.
 use mathlib.Core.Path.{◌≡◌, refl, sym, ap, ◌∙◌, subst}
-use mathlib.Core.Bool.{true, not}
+use mathlib.Core.Bool.{not}
 use mathlib.Core.List.{List, [], ◌∷◌, map}
 use Prim.Native.Nat.{ℕ, zero, suc, ◌^◌, ◌<◌}
 use native.Mathlib.Omega.{arith}
@@ -9,7 +9,7 @@ use lib.Dec.{leb, ltb}
 use lib.ListN.{length, get_or, drop, length-map, get_or-append}
 use lib.Seq.{ext_get_or}
 use lib.Ieee.{Float, nan}
-use borrow.Author.Tests.{ltb-false, leb-false, eq-eqb, not-false}
+use borrow.Author.Tests.{ltb-false, leb-false, not-false}
 use Rattle.paper.specs.Outcome.{accepted}
 use Rattle.paper.specs.Memory.{written}
 use Rattle.paper.proofs.Front.{written_length}
@@ -35,14 +35,6 @@ map_at f [] k a b inside = absurd (omega arith)
 map_at f (e ∷ es) zero a b inside = refl
 map_at f (e ∷ es) (suc k) a b inside = map_at f es k a b (omega arith)
 
-pub equal_is : (ps : List ℕ) (m : PointColumns) → Equal ps m → equal_lengths ps m ≡ true
-equal_is ps m h =
-    simp (
-      eq-eqb (length ps) (length m.xs) (sym h.in_xs),
-      eq-eqb (length ps) (length m.ys) (sym h.in_ys),
-      eq-eqb (length ps) (length m.zs) (sym h.in_zs),
-    )
-
 module _ (l : ℕ) (ps : List ℕ) (i : ℕ) (r : Root) (m : PointColumns) where
   -- ---- accepted
   record Taken (found : List Point) : Type 0 where
@@ -60,7 +52,7 @@ module _ (l : ℕ) (ps : List ℕ) (i : ℕ) (r : Root) (m : PointColumns) where
       record {
         tested =
             record {
-              equal = not-false _ columns.0;
+              equal = equal ps m (not-false _ columns.0);
               shallow = ltb-false 21 l level.0;
               inside = positions.0;
               numbered = leb-false 6 i number.0;
@@ -85,7 +77,7 @@ module _ (l : ℕ) (ps : List ℕ) (i : ℕ) (r : Root) (m : PointColumns) where
   pub accepts_there : (found : List Point) → corner_points l ps i r m ≡ accepted found → Equal ps m × (Passes l i r × OneByOne l ps i r found)
   accepts_there found h =
       let t = taken found h in (
-        equal ps m t.tested.equal,
+        t.tested.equal,
         (record { shallow = t.tested.shallow; numbered = t.tested.numbered; near = t.tested.near }, one_by_one found t),
       )
 
@@ -100,7 +92,7 @@ module _ (l : ℕ) (ps : List ℕ) (i : ℕ) (r : Root) (m : PointColumns) where
   accepts_back found (long, (passes, each)) =
       let below : (k : ℕ) → k < length ps → get_or ps k 0 < 8 ^ l = λ k inside. position_of (get_or ps k 0) _ (each.single k inside) in
       let t : Tested l ps i r m =
-      record { equal = equal_is ps m long; shallow = passes.shallow; inside = all_inside l ps below; numbered = passes.numbered; near = passes.near } in
+      record { equal = long; shallow = passes.shallow; inside = all_inside l ps below; numbered = passes.numbered; near = passes.near } in
       let entries : (k : ℕ) → k < length (points l ps i r) → get_or (points l ps i r) k past ≡ get_or found k past =
       λ k less.
       let inside : k < length ps = subst (λ (n : ℕ). k < n) (length-map ps _) less in

@@ -20,7 +20,7 @@ use Rattle.corners.specs.Section.{PointColumns, equal_lengths, points, corner_po
 use Rattle.corners.specs.SectionLaws.{Equal, FirstBad}
 use Rattle.corners.proofs.Filling.{equal}
 use Rattle.corners.proofs.SectionCall.{later, onward}
-use Rattle.corners.proofs.SectionAccepted.{equal_is}
+use Rattle.corners.proofs.Filling.{equal_is}
 
 module _ (l : ℕ) (ps : List ℕ) (i : ℕ) (r : Root) (m : PointColumns) where
   pub bad_is : (k n : ℕ) → FirstFault (position_fault l) ps 0 n k → (n ≡ 5) × FirstBad l ps k

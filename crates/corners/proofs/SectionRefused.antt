@@ -25,9 +25,8 @@ use Rattle.corners.specs.CornerPoints.{root_within, point_at, corner_point}
 use Rattle.corners.specs.Section.{PointColumns, equal_lengths, points, corner_points}
 use Rattle.corners.specs.SectionLaws.{Equal}
 use Rattle.corners.proofs.Call.{point_refused_1, point_refused_5, point_refused_8, point_refused_24}
-use Rattle.corners.proofs.Filling.{equal}
+use Rattle.corners.proofs.Filling.{equal, equal_is}
 use Rattle.corners.proofs.SectionCall.{later, onward}
-use Rattle.corners.proofs.SectionAccepted.{equal_is}
 use Rattle.corners.proofs.SectionPlaces.{bad_is}
 
 -- the single call never refuses by 11

@@ -9,14 +9,13 @@
 --   coordinate z            the f64 nearest to z / 2^42, zero as +0; `Laws.antt` says that it has exactly that value
 --   point_at r c            "The answer is .. a point of three f64", for the local corner c, which is (X, Y, Z)
 --   corner_point l p i r    the call: "Points take a level and a position: 1, 5, 8, 24."
---   point_of                the outcome that a PointAnswer stands for
 --
 -- Not here: local corners by type (`prism/specs/Points.antt`). Assumes nothing.
 use Rattle.std.specs.Prelude.{Bool, true, false, not, ◌&&◌, [], ◌∷◌, ℕ, ◌+◌, ◌^◌, ℤ, pos, negsuc, nat_abs, ◌+ℤ◌, ◌-ℤ◌, ◌*ℤ◌, leb, ltb, get_or, Float}
 use Rattle.std.specs.Int.Signed.{le_z}
 use Rattle.std.specs.Float.{binary64}
 use Rattle.std.specs.Float.Ieee.{round}
-use Rattle.paper.specs.Outcome.{Outcome, accepted, refused, refuse_when}
+use Rattle.paper.specs.Outcome.{Outcome, accepted, refuse_when}
 use Rattle.tree.specs.Anchors.{HIGHEST, EDGE}
 use Rattle.tree.specs.Words.{element_at}
 use Rattle.prism.specs.Elements.{CHILDREN, CORNERS, prism}
@@ -24,8 +23,6 @@ use Rattle.prism.specs.Points as prisms
 use Rattle.corners.specs.declared.Corner.{Corner}
 use Rattle.corners.specs.declared.Root.{Root}
 use Rattle.corners.specs.declared.Point.{Point}
-use Rattle.corners.specs.declared.PointAnswer.{PointAnswer}
-use Rattle.corners.specs.declared.PointAnswer.TheVariants.{Is, Refused}
 
 abbrev pub corner : Root → ℕ → Corner
 corner r j = get_or (r.v0 ∷ r.v1 ∷ r.v2 ∷ r.v3 ∷ r.v4 ∷ r.v5 ∷ []) j r.v0
@@ -78,7 +75,3 @@ corner_point l p i r =
     (refuse_when (leb CORNERS i) 8
     (refuse_when (not (root_within r)) 24
     (accepted (point_at r (prisms.corner HIGHEST (element_at prism l p) i))))))
-
-abbrev pub point_of : PointAnswer → Outcome Point
-point_of (Is p) = accepted p
-point_of (Refused number place) = refused number place

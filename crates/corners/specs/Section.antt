@@ -11,10 +11,11 @@
 --
 -- Not here: the single call (`CornerPoints.antt`), that the two agree (`SectionLaws.antt`). Assumes nothing.
 use Rattle.std.specs.Prelude.{Bool, not, ◌&&◌, List, map, ℕ, leb, ltb, eqb, length, Float}
+use Rattle.std.specs.declared.result.Result.{Result}
 use Rattle.paper.specs.Outcome.{Outcome, accepted, mapped, refuse_when, scan}
 use Rattle.paper.specs.Memory.{written, Fulfils}
-use Rattle.paper.specs.Readings.{pass_of}
-use Rattle.paper.specs.declared.PassAnswer.{PassAnswer}
+use Rattle.paper.specs.Refusals.{outcome_of}
+use Rattle.paper.specs.declared.Refusal.{Refusal}
 use Rattle.tree.specs.Anchors.{HIGHEST}
 use Rattle.tree.specs.Words.{element_at}
 use Rattle.prism.specs.Elements.{CORNERS, prism}
@@ -55,5 +56,5 @@ filled found m =
     (written (map (λ (a : Point). a.y) found) m.ys)
     (written (map (λ (a : Point). a.z) found) m.zs)
 
-abbrev pub SectionFilled : ℕ → List ℕ → ℕ → Root → PassAnswer → PointColumns → PointColumns → Type 0
-SectionFilled l ps i r a m m' = Fulfils pass_of (mapped (λ (found : List Point). tt)) filled (corner_points l ps i r m) a m m'
+abbrev pub SectionFilled : ℕ → List ℕ → ℕ → Root → Result (Unit {0}) Refusal → PointColumns → PointColumns → Type 0
+SectionFilled l ps i r a m m' = Fulfils outcome_of (mapped (λ (found : List Point). tt)) filled (corner_points l ps i r m) a m m'

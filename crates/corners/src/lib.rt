@@ -3,19 +3,23 @@
 #![tactic(auto)]
 
 ghost use Rattle.std.specs.Prelude.{◌≡◌};
-ghost use Rattle.corners.specs.CornerPoints.{point_of, corner_point};
+ghost use Rattle.paper.specs.Refusals.{outcome_of};
+ghost use Rattle.corners.specs.CornerPoints.{corner_point};
 ghost use Rattle.corners.specs.Section.{point_columns, SectionFilled};
+ghost use Rattle.corners.specs.Inner.{check_corner};
 
-use paper::PassAnswer;
-use prism::{Prism, PrismAnswer};
-use tree::HIGHEST;
+use paper::Refusal;
+use prism::Prism;
+use tree::element::Element;
 
+mod child;
+mod local;
 mod section;
 mod work;
 
 // One of a root's six corners.
 #[repr(C)]
-#[derive(Clone, Copy)]
+#[derive(Clone, Copy, Debug, PartialEq, Eq)]
 pub struct Corner {
     pub x: i64,
     pub y: i64,
@@ -23,8 +27,9 @@ pub struct Corner {
 }
 
 // A root: v0 to v2 belong to z = 0, v3 to v5 to z = EDGE, each over the one three before it. In space they may lie anywhere.
+// Six fields, and no array: the C interface has them so.
 #[repr(C)]
-#[derive(Clone, Copy)]
+#[derive(Clone, Copy, Debug, PartialEq, Eq)]
 pub struct Root {
     pub v0: Corner,
     pub v1: Corner,
@@ -35,41 +40,20 @@ pub struct Root {
 }
 
 #[repr(C)]
-#[derive(Clone, Copy)]
+#[derive(Clone, Copy, Debug, PartialEq)]
 pub struct Point {
     pub x: f64,
     pub y: f64,
     pub z: f64,
 }
 
-// A point, or the refusal's number and place.
-#[derive(Clone, Copy)]
-pub enum PointAnswer {
-    Is(Point),
-    Refused(u8, u64),
-}
-
 // The point of a corner of the element of a level at a position. Refused: 1, 5, 8, 24.
-pub fn corner_point(level: u8, position: u64, corner: u8, root: Root) -> PointAnswer
-    ensures { point_of result ≡ corner_point level position corner root }
+pub fn corner_point(level: u8, position: u64, corner: u8, root: Root) -> Result<Point, Refusal>
+    ensures { outcome_of result ≡ corner_point level position corner root }
 {
-    if HIGHEST < level {
-        return PointAnswer::Refused(1, 0);
-    }
-    if 1u64 << (3 * level) <= position {
-        return PointAnswer::Refused(5, 0);
-    }
-    if Prism::CORNERS <= corner {
-        return PointAnswer::Refused(8, 0);
-    }
-    if !root.within() {
-        return PointAnswer::Refused(24, 0);
-    }
-    // The position is one of the level's, so there is an element.
-    let PrismAnswer::Is(e) = Prism::at(level, position) else {
-        return PointAnswer::Refused(5, 0);
-    };
-    PointAnswer::Is(work::placed(root, work::local_of(e, corner)))
+    let e = Prism::at(level, position)?;
+    check_corner(corner, root)?;
+    Ok(work::placed(root, work::local_of(e, corner)))
 }
 
 // The points of a corner of the elements of a level at some positions, one coordinate a column. Refused: 11, 1, 5 at the first position
@@ -82,24 +66,29 @@ pub fn corner_points(
     xs: &mut [f64],
     ys: &mut [f64],
     zs: &mut [f64],
-) -> PassAnswer
+) -> Result<(), Refusal>
     ensures { SectionFilled level positions.now corner root result
         (point_columns xs.old ys.old zs.old)
         (point_columns xs.new ys.new zs.new) }
 {
     if !section::equal_lengths(positions.len(), xs.len(), ys.len(), zs.len()) {
-        return PassAnswer::Refused(11, 0);
+        return Err(Refusal::UnfitColumns(0));
     }
-    let fault = positions::check(level, positions);
-    if fault.number != 0 {
-        return PassAnswer::Refused(fault.number, fault.place);
-    }
+    positions::check(level, positions)?;
+    check_corner(corner, root)?;
+    section::fill(level, positions, corner, root, xs, ys, zs);
+    Ok(())
+}
+
+// The last tests of both calls. Refused: 8, 24.
+fn check_corner(corner: u8, root: Root) -> Result<(), Refusal>
+    ensures { outcome_of result ≡ check_corner corner root }
+{
     if Prism::CORNERS <= corner {
-        return PassAnswer::Refused(8, 0);
+        return Err(Refusal::NumberTooLarge(0));
     }
     if !root.within() {
-        return PassAnswer::Refused(24, 0);
+        return Err(Refusal::FarCorner(0));
     }
-    section::fill(level, positions, corner, root, xs, ys, zs);
-    PassAnswer::Passed
+    Ok(())
 }

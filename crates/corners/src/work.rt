@@ -6,12 +6,13 @@ ghost use Rattle.tree.specs.Laws.{Sound};
 ghost use Rattle.triangle.specs.Elements as triangles;
 ghost use Rattle.prism.specs.Elements.{CORNERS, prism};
 ghost use Rattle.prism.specs.Points as prisms;
-ghost use Rattle.corners.specs.CornerPoints.{within, all_within, root_within, q, coordinate, point_at};
-ghost use Rattle.prism.specs.Points.{InRoot};
-ghost use Rattle.corners.specs.Inner.{along, Near, Heights, mix, blend, xs, ys, zs, CornerRow, local_of, corner_of};
+ghost use Rattle.corners.specs.CornerPoints.{within, corner_within, root_within, q, coordinate, point_at};
+ghost use Rattle.corners.specs.Inner.{along, Near, AxisOf, Heights, mix, blend, CornerRow, corner_of};
 
-use crate::{Point, Root};
+use crate::local::Local;
+use crate::{Corner, Point, Root};
 use prism::Prism;
+use tree::element::Element;
 use triangle::Triangle;
 
 // One coordinate of a root's six corners.
@@ -25,34 +26,19 @@ pub(crate) struct Axis {
     pub v5: i64,
 }
 
-// Where a corner lies within the root, on the scale of its edge.
-#[derive(Clone, Copy)]
-pub(crate) struct Local {
-    pub x: u32,
-    pub y: u32,
-    pub z: u32,
-}
-
 fn within(v: i64) -> bool
     ensures { result ≡ within v }
 {
-    if -512 <= v {
-        return v <= 512;
-    }
-    false
+    (-512..=512).contains(&v)
 }
 
-// The three numbers of a corner.
-fn all_within(x: i64, y: i64, z: i64) -> bool
-    ensures { result ≡ all_within x y z }
-{
-    if !within(x) {
-        return false;
+impl Corner {
+    // The three numbers are from -512 to 512.
+    fn within(self) -> bool
+        ensures { result ≡ corner_within self }
+    {
+        within(self.x) && within(self.y) && within(self.z)
     }
-    if !within(y) {
-        return false;
-    }
-    within(z)
 }
 
 impl Root {
@@ -60,60 +46,26 @@ impl Root {
     pub(crate) fn within(self) -> bool
         ensures { result ≡ root_within self }
     {
-        if !all_within(self.v0.x, self.v0.y, self.v0.z) {
-            return false;
-        }
-        if !all_within(self.v1.x, self.v1.y, self.v1.z) {
-            return false;
-        }
-        if !all_within(self.v2.x, self.v2.y, self.v2.z) {
-            return false;
-        }
-        if !all_within(self.v3.x, self.v3.y, self.v3.z) {
-            return false;
-        }
-        if !all_within(self.v4.x, self.v4.y, self.v4.z) {
-            return false;
-        }
-        all_within(self.v5.x, self.v5.y, self.v5.z)
+        self.v0.within()
+            && self.v1.within()
+            && self.v2.within()
+            && self.v3.within()
+            && self.v4.within()
+            && self.v5.within()
     }
 
-    fn xs(self) -> Axis
-        ensures { result ≡ xs self }
+    // One coordinate of the six corners.
+    fn axis<F: Fn(Corner) -> i64>(self, coordinate: F) -> Axis
+        requires { F.IsAlwaysCallable coordinate }
+        ensures { AxisOf (F.post coordinate) self result }
     {
         Axis {
-            v0: self.v0.x,
-            v1: self.v1.x,
-            v2: self.v2.x,
-            v3: self.v3.x,
-            v4: self.v4.x,
-            v5: self.v5.x,
-        }
-    }
-
-    fn ys(self) -> Axis
-        ensures { result ≡ ys self }
-    {
-        Axis {
-            v0: self.v0.y,
-            v1: self.v1.y,
-            v2: self.v2.y,
-            v3: self.v3.y,
-            v4: self.v4.y,
-            v5: self.v5.y,
-        }
-    }
-
-    fn zs(self) -> Axis
-        ensures { result ≡ zs self }
-    {
-        Axis {
-            v0: self.v0.z,
-            v1: self.v1.z,
-            v2: self.v2.z,
-            v3: self.v3.z,
-            v4: self.v4.z,
-            v5: self.v5.z,
+            v0: coordinate(self.v0),
+            v1: coordinate(self.v1),
+            v2: coordinate(self.v2),
+            v3: coordinate(self.v3),
+            v4: coordinate(self.v4),
+            v5: coordinate(self.v5),
         }
     }
 }
@@ -126,15 +78,13 @@ pub(crate) fn sides(kind: u8, number: u8) -> u8
     requires { (kind < 2) × (number < triangles.CORNERS) }
     ensures { CornerRow kind number result }
 {
-    let t = kind as usize;
-    let i = number as usize;
-    CORNER[t][i]
+    CORNER[kind as usize][number as usize]
 }
 
 // A corner of an element: that of its triangle, 0 to 2 at z, 3 to 5 at z + h.
 pub(crate) fn local_of(e: Prism, corner: u8) -> Local
     requires { (Sound prism e) × (corner < CORNERS) }
-    ensures { result ≡ local_of (prisms.corner HIGHEST e corner) }
+    ensures { corner_of result ≡ prisms.corner HIGHEST e corner }
 {
     let h = tree::side(e.level);
     let s = sides(e.kind, corner % Triangle::CORNERS) as u32;
@@ -163,14 +113,24 @@ fn blended(t0: i64, t1: i64, t2: i64, x: u32, y: u32) -> i64
     SCALE * t0 + (t1 - t0) * x as i64 + (t2 - t1) * y as i64
 }
 
-fn scaled(a: Axis, p: Local) -> i64
-    requires { Near a × InRoot HIGHEST (corner_of p) }
-    ensures { result ≡ q (along a) p.x p.y p.z }
-{
-    let t0 = raised(a.v0, a.v3, p.z);
-    let t1 = raised(a.v1, a.v4, p.z);
-    let t2 = raised(a.v2, a.v5, p.z);
-    blended(t0, t1, t2, p.x, p.y)
+impl Axis {
+    // Q at a corner.
+    fn scaled(self, p: Local) -> i64
+        requires { Near self }
+        ensures { result ≡ q (along self) p.x p.y p.z }
+    {
+        let t0 = raised(self.v0, self.v3, p.z);
+        let t1 = raised(self.v1, self.v4, p.z);
+        let t2 = raised(self.v2, self.v5, p.z);
+        blended(t0, t1, t2, p.x, p.y)
+    }
+
+    fn measured(self, p: Local) -> f64
+        requires { Near self }
+        ensures { result ≡ coordinate (q (along self) p.x p.y p.z) }
+    {
+        shrunk(self.scaled(p))
+    }
 }
 
 // Q / 2^42: Q is an f64 without loss, and times 2^-42 it keeps its digits.
@@ -181,20 +141,13 @@ fn shrunk(q: i64) -> f64
     q as f64 * 0.000000000000227373675443232059478759765625
 }
 
-fn measured(a: Axis, p: Local) -> f64
-    requires { Near a × InRoot HIGHEST (corner_of p) }
-    ensures { result ≡ coordinate (q (along a) p.x p.y p.z) }
-{
-    shrunk(scaled(a, p))
-}
-
 pub(crate) fn placed(root: Root, p: Local) -> Point
-    requires { (root_within root ≡ true) × InRoot HIGHEST (corner_of p) }
+    requires { root_within root ≡ true }
     ensures { result ≡ point_at root (corner_of p) }
 {
     Point {
-        x: measured(root.xs(), p),
-        y: measured(root.ys(), p),
-        z: measured(root.zs(), p),
+        x: root.axis(|v| v.x).measured(p),
+        y: root.axis(|v| v.y).measured(p),
+        z: root.axis(|v| v.z).measured(p),
     }
 }

@@ -1,28 +1,25 @@
 // Answers a few questions about prisms, as the geologists put them.
 #![tactic(auto)]
 
-use paper::NumberAnswer;
-use prism::{Prism, PrismAnswer};
+use paper::Refusal;
+use prism::Prism;
 use std::io;
+use tree::element::Element;
 
-fn refused(rt: &impl Print, number: u8, place: u64) -> io::Result<()> {
-    println!(rt; "refused {number} place {place}")
-}
-
-fn say(rt: &impl Print, a: PrismAnswer) -> io::Result<()> {
+fn say(rt: &impl Print, a: Result<Prism, Refusal>) -> io::Result<()> {
     match a {
-        PrismAnswer::Is(e) => println!(rt;
+        Ok(e) => println!(rt;
             "level {} anchor {} {} {} type {}",
             e.level, e.x, e.y, e.z, e.kind
         ),
-        PrismAnswer::Refused(number, place) => refused(rt, number, place),
+        Err(refusal) => println!(rt; "{refusal}"),
     }
 }
 
-fn say_position(rt: &impl Print, a: NumberAnswer) -> io::Result<()> {
+fn say_position(rt: &impl Print, a: Result<u64, Refusal>) -> io::Result<()> {
     match a {
-        NumberAnswer::Is(p) => println!(rt; "position {p}"),
-        NumberAnswer::Refused(number, place) => refused(rt, number, place),
+        Ok(p) => println!(rt; "position {p}"),
+        Err(refusal) => println!(rt; "{refusal}"),
     }
 }
 

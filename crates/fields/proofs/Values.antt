@@ -9,14 +9,9 @@ use lib.Dec.{leb}
 use lib.ListN.{length}
 use borrow.Author.Tests.{leb-true, le-leb, not-true}
 use Rattle.fields.specs.Fields.{is_digit, all_digits, leading_zero, is_number, value_from, value}
-use Rattle.fields.proofs.Numbers.{digit_below}
+use Rattle.fields.proofs.Numbers.{is_digit_lem, digit_below}
 
 -- ---- what a number's field is
-is_digit_lem : (b : ℕ) → is_digit b ≡ true → (48 ≤ b) × (b ≤ 57)
-is_digit_lem b is =
-    let both = (and-eq-true_iff (leb 48 b) (leb b 57)).0 is in
-    (leb-true 48 b both.0, leb-true b 57 both.1)
-
 pub all_parts : (b : ℕ) (f : List ℕ) → all_digits (b ∷ f) ≡ true → (48 ≤ b) × (b ≤ 57) × (all_digits f ≡ true)
 unfolding all_digits
 all_parts b f all =

@@ -7,16 +7,18 @@
 --                      at i, has another byte than digits where that has one, and says what that says after n
 --   Ran s at r         the run r is the digits from `at` on, up to the first other byte, but no more than nine
 --   zero_first b many  b, the first of `many` digits, is a zero, and not the only one
---   numbered_of        the outcome that a Numbered stands for
+--   numbered_of        the outcome that the result of `number_at` stands for, its number and end as a pair
 --   number_at s at     the number in the field that begins at `at`, and where the field ends; refused 23 where it is none. Past the end of s
 --                      there is no byte, and so no number
 --
 -- Assumes nothing.
 use Rattle.std.specs.Prelude.{◌≡◌, Bool, false, cond, not, ◌&&◌, List, [], ◌∷◌, ℕ, ◌+◌, ◌≤◌, ◌<◌, eqb, length, get_or, drop}
-use Rattle.paper.specs.Outcome.{Outcome, accepted, refused, refuse_when}
+use Rattle.std.specs.declared.result.Result.{Result}
+use Rattle.paper.specs.declared.Refusal.{Refusal}
+use Rattle.paper.specs.Outcome.{Outcome, accepted, mapped, refuse_when}
+use Rattle.paper.specs.Refusals.{outcome_of}
 use Rattle.fields.specs.Fields.{lf, semicolon, is_digit, all_digits, is_number, value_from, value}
-use Rattle.fields.specs.declared.digits.Numbered.{Numbered}
-use Rattle.fields.specs.declared.digits.Numbered.TheVariants as answer
+use Rattle.fields.specs.declared.digits.Number.{Number}
 use Rattle.fields.specs.declared.digits.Run.{Run}
 
 unfoldable pub piece : List ℕ → List ℕ
@@ -43,9 +45,8 @@ pub record Ran (s : List ℕ) (at : ℕ) (r : Run) : Type 0 where
 abbrev pub zero_first : ℕ → ℕ → Bool
 zero_first b many = eqb b 48 && not (eqb many 1)
 
-abbrev pub numbered_of : Numbered → Outcome (ℕ × ℕ)
-numbered_of (answer.Is number end) = accepted (number, end)
-numbered_of (answer.Refused number place) = refused number place
+abbrev pub numbered_of : Result Number Refusal → Outcome (ℕ × ℕ)
+numbered_of r = mapped (λ (n : Number). (n.value, n.end)) (outcome_of r)
 
 abbrev pub number_at : List ℕ → ℕ → Outcome (ℕ × ℕ)
 number_at s at = refuse_when (not (is_number (piece (drop at s)))) 23 (accepted (value (piece (drop at s)), at + length (piece (drop at s))))

@@ -6,37 +6,26 @@ ghost use Rattle.fields.specs.Inner.{piece, next, closes};
 pub fn ends(input: &[u8], i: usize) -> bool
     ensures { result ≡ eqb (length (piece (drop i input.now))) 0 }
 {
-    if input.len() <= i {
-        return true;
+    match input.get(i) {
+        Some(b) => *b == b'\n' || *b == b';',
+        None => true,
     }
-    if input[i] == b'\n' {
-        return true;
-    }
-    input[i] == b';'
 }
 
 // Where the field after the one that ended at `end` begins; past the input where there is none.
+// A place and no Option: a missing field is read, and refused, like one that is no number. With an Option `read` would test twice for one refusal.
 pub fn after(input: &[u8], end: usize) -> usize
     ensures { result ≡ next input.now end }
 {
-    if input.len() <= end {
-        return input.len() + 1;
+    match input.get(end) {
+        Some(b';') => end + 1,
+        _ => input.len() + 1,
     }
-    if input[end] == b';' {
-        return end + 1;
-    }
-    input.len() + 1
 }
 
 // Whether the field that ended at `end` is followed by LF, and the LF by nothing.
 pub fn closing(input: &[u8], end: usize) -> bool
     ensures { result ≡ closes input.now end }
 {
-    if input.len() <= end {
-        return false;
-    }
-    if end + 1 != input.len() {
-        return false;
-    }
-    input[end] == b'\n'
+    matches!(input.get(end..), Some([b'\n']))
 }

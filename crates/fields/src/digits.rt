@@ -3,15 +3,16 @@ ghost use Rattle.std.specs.Prelude.{◌≡◌, ◌≤◌, ◌<◌, length, get_o
 ghost use Rattle.fields.specs.Inner.{Ran, zero_first, numbered_of, number_at};
 
 use crate::cut;
+use paper::Refusal;
 
 // The most digits of a number.
 const MOST: usize = 9;
 
 // The number in a field, and where the field ends.
 #[derive(Clone, Copy)]
-pub enum Numbered {
-    Is(u64, usize),
-    Refused(u8, u64),
+pub struct Number {
+    pub value: u64,
+    pub end: usize,
 }
 
 // Some digits: what they say, and how many there are.
@@ -26,24 +27,18 @@ fn digits(input: &[u8], at: usize) -> Run
     requires { at ≤ length input.now }
     ensures { Ran input.now at result }
 {
-    let rest = input.len() - at;
+    let most = MOST.min(input.len() - at);
     let mut number: u64 = 0;
-    let mut k = 0;
-    while k < MOST {
-        if rest <= k {
+    for (k, b) in input[at..at + most].iter().enumerate() {
+        if !b.is_ascii_digit() {
             return Run { number, count: k };
         }
-        let b = input[at + k] as u64;
-        if b < 48 {
-            return Run { number, count: k };
-        }
-        if 57 < b {
-            return Run { number, count: k };
-        }
-        number = number * 10 + (b - 48);
-        k += 1;
+        number = number * 10 + u64::from(b - b'0');
     }
-    Run { number, count: k }
+    Run {
+        number,
+        count: most,
+    }
 }
 
 // Whether a zero stands at `at`, the first of so many digits and not the only one.
@@ -51,29 +46,23 @@ fn leading_zero(input: &[u8], at: usize, count: usize) -> bool
     requires { at < length input.now }
     ensures { result ≡ zero_first (get_or input.now at 0) count }
 {
-    if input[at] != b'0' {
-        return false;
-    }
-    count != 1
+    input[at] == b'0' && count != 1
 }
 
 // The number in the field that begins at `at`: 1 to 9 digits without a leading zero, except 0 itself. Refused: 23.
-pub fn number_at(input: &[u8], at: usize) -> Numbered
+pub fn number_at(input: &[u8], at: usize) -> Result<Number, Refusal>
     ensures { numbered_of result ≡ number_at input.now at }
 {
     if input.len() <= at {
-        return Numbered::Refused(23, 0);
+        return Err(Refusal::UnfitField(0));
     }
     let run = digits(input, at);
-    if run.count == 0 {
-        return Numbered::Refused(23, 0);
-    }
     let end = at + run.count;
-    if !cut::ends(input, end) {
-        return Numbered::Refused(23, 0);
+    if run.count == 0 || !cut::ends(input, end) || leading_zero(input, at, run.count) {
+        return Err(Refusal::UnfitField(0));
     }
-    if leading_zero(input, at, run.count) {
-        return Numbered::Refused(23, 0);
-    }
-    Numbered::Is(run.number, end)
+    Ok(Number {
+        value: run.number,
+        end,
+    })
 }

@@ -1,12 +1,61 @@
 // Runs document 01's file examples: the files of a uniform start and of its leaf 2 refined, read back; and two numbers of a file.
 #![tactic(auto)]
 
-use paper::NumberAnswer;
-use reader::GridAnswer;
+use columns::LentColumns;
+use leaves::LeafList;
+use paper::Refusal;
+use reader::Grid;
 use std::io;
 
-fn refused(rt: &impl Print, number: u8, place: u64) -> io::Result<()> {
-    println!(rt; "refused {number} place {place}")
+// Three columns of so many entries.
+#[derive(Drop)]
+struct Entries<const N: usize> {
+    roots: [u16; N],
+    levels: [u8; N],
+    positions: [u64; N],
+}
+
+impl<const N: usize> Entries<N> {
+    fn new() -> Self {
+        Entries {
+            roots: [0; N],
+            levels: [0; N],
+            positions: [0; N],
+        }
+    }
+
+    fn list(&self) -> LeafList<'_> {
+        LeafList {
+            roots: &self.roots,
+            levels: &self.levels,
+            positions: &self.positions,
+        }
+    }
+
+    fn lent(&mut self) -> LentColumns<'_> {
+        LentColumns {
+            roots: &mut self.roots,
+            levels: &mut self.levels,
+            positions: &mut self.positions,
+        }
+    }
+}
+
+// The file of one root at level 1.
+fn uniform(bytes: &mut [u8]) -> Result<u64, Refusal> {
+    let mut entries = Entries::<8>::new();
+    columns::uniform(1, 1, &mut entries.lent())?;
+    writer::write(1, &entries.list(), bytes)
+}
+
+// The same with leaf 2 refined.
+fn refined(bytes: &mut [u8]) -> Result<u64, Refusal> {
+    let mut entries = Entries::<8>::new();
+    let mut finer = Entries::<15>::new();
+    columns::uniform(1, 1, &mut entries.lent())?;
+    let marks = [0, 0, 1, 0, 0, 0, 0, 0];
+    adaption::adapt(1, &entries.list(), &marks, &mut finer.lent())?;
+    writer::write(1, &finer.list(), bytes)
 }
 
 // The bytes in hexadecimal on the rest of the line.
@@ -17,74 +66,35 @@ fn say_bytes(rt: &impl Print, bytes: &[u8]) -> io::Result<()> {
     println!(rt;)
 }
 
-fn say_file(rt: &impl Print, a: NumberAnswer, bytes: &[u8]) -> io::Result<()> {
-    match a {
-        NumberAnswer::Is(_) => say_bytes(rt, bytes),
-        NumberAnswer::Refused(number, place) => refused(rt, number, place),
+// A file that was written, and what it is read back as.
+fn say_file(rt: &impl Print, written: Result<u64, Refusal>, bytes: &[u8]) -> io::Result<()> {
+    match written {
+        Ok(_) => say_bytes(rt, bytes)?,
+        Err(refusal) => println!(rt; "{refusal}")?,
     }
+    print!(rt; "read back: ")?;
+    say_grid(rt, bytes)
 }
 
 // What a file is read as, with room for fifteen leaves.
 fn say_grid(rt: &impl Print, bytes: &[u8]) -> io::Result<()> {
-    let mut roots: [u16; 15] = [0; 15];
-    let mut levels: [u8; 15] = [0; 15];
-    let mut positions: [u64; 15] = [0; 15];
-    match reader::read(bytes, &mut roots, &mut levels, &mut positions) {
-        GridAnswer::Is(k, leaves) => println!(rt; "{k} roots, {leaves} leaves"),
-        GridAnswer::Refused(number, place) => refused(rt, number, place),
+    let mut entries = Entries::<15>::new();
+    match reader::read(bytes, &mut entries.lent()) {
+        Ok(Grid { roots, leaves }) => println!(rt; "{roots} roots, {leaves} leaves"),
+        Err(refusal) => println!(rt; "{refusal}"),
     }
 }
 
-// One root at level 1.
-fn uniform(rt: &impl Print) -> io::Result<()> {
-    let mut roots: [u16; 8] = [0; 8];
-    let mut levels: [u8; 8] = [0; 8];
-    let mut positions: [u64; 8] = [0; 8];
-    let mut bytes: [u8; 8] = [0; 8];
-    columns::uniform(1, 1, &mut roots, &mut levels, &mut positions);
-    print!(rt; "uniform at level 1:")?;
-    let written = writer::write(1, &roots, &levels, &positions, &mut bytes);
-    say_file(rt, written, &bytes)?;
-    print!(rt; "read back: ")?;
-    say_grid(rt, &bytes)
-}
-
-// The same with leaf 2 refined.
-fn refined(rt: &impl Print) -> io::Result<()> {
-    let mut roots: [u16; 8] = [0; 8];
-    let mut levels: [u8; 8] = [0; 8];
-    let mut positions: [u64; 8] = [0; 8];
-    let marks: [u8; 8] = [0, 0, 1, 0, 0, 0, 0, 0];
-    let mut roots2: [u16; 15] = [0; 15];
-    let mut levels2: [u8; 15] = [0; 15];
-    let mut positions2: [u64; 15] = [0; 15];
-    let mut bytes: [u8; 12] = [0; 12];
-    columns::uniform(1, 1, &mut roots, &mut levels, &mut positions);
-    adaption::adapt(
-        1,
-        &roots,
-        &levels,
-        &positions,
-        &marks,
-        &mut roots2,
-        &mut levels2,
-        &mut positions2,
-    );
-    print!(rt; "leaf 2 refined:")?;
-    let written = writer::write(1, &roots2, &levels2, &positions2, &mut bytes);
-    say_file(rt, written, &bytes)?;
-    print!(rt; "read back: ")?;
-    say_grid(rt, &bytes)
-}
-
 fn main(rt: HostRuntime) -> io::Result<()> {
-    uniform(&rt)?;
-    refined(&rt)?;
+    let mut file = [0; 8];
+    print!(rt; "uniform at level 1:")?;
+    say_file(&rt, uniform(&mut file), &file)?;
+    let mut file = [0; 12];
+    print!(rt; "leaf 2 refined:")?;
+    say_file(&rt, refined(&mut file), &file)?;
     // Four roots at level 6: their 1,048,576 leaves are the number 80 80 40, and more than there is room for.
     print!(rt; "80 80 40 leaves: ")?;
-    let many: [u8; 10] = [80, 71, 82, 49, 4, 1, 6, 128, 128, 64];
-    say_grid(&rt, &many)?;
+    say_grid(&rt, &[80, 71, 82, 49, 4, 1, 6, 128, 128, 64])?;
     print!(rt; "81 00 roots: ")?;
-    let longer: [u8; 6] = [80, 71, 82, 49, 129, 0];
-    say_grid(&rt, &longer)
+    say_grid(&rt, &[80, 71, 82, 49, 129, 0])
 }

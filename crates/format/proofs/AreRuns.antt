@@ -40,7 +40,7 @@ join_apart l (r ∷ rs) f = by (key_or_not l r.key)
         subst Apart (sym (join_same l r rs same)) (omega arith, (subst (λ (m : ℕ). Differs m rs) (sym same) f.1.0, f.1.1))
     by (no other) = subst Apart (sym (join_other l r rs other)) (omega arith, (other, f))
 
-key_runs_are : (ks : List Key) → (keys_in (runs_in ks) ≡ ks) × Apart (runs_in ks)
+pub key_runs_are : (ks : List Key) → (keys_in (runs_in ks) ≡ ks) × Apart (runs_in ks)
 unfolding runs_in keys_in Apart
 key_runs_are [] = (refl, tt)
 key_runs_are (k ∷ ks) =

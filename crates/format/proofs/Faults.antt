@@ -8,11 +8,10 @@ use native.Mathlib.Omega.{arith}
 use lib.Dec.{leb, ltb, eqb}
 use lib.ListN.{length}
 use borrow.Author.Tests.{leb-false, eqb-false}
-use Rattle.paper.specs.Outcome.{refused}
 use Rattle.leaves.specs.Calls.{limit}
 use Rattle.numbers.specs.Numbers.{Found, byte_at, number_at}
 use Rattle.format.specs.Reading.{fits, Walk, FoundRun, after_count, after_level, run_at}
-use Rattle.format.proofs.Cases.{Either, value, when, choose, next, of_fault}
+use Rattle.format.proofs.Cases.{Either, value, when, choose, next}
 
 module _ (bs : List ℕ) where
   -- an offset up to m, and in the file where the offset i is
@@ -82,6 +81,3 @@ module _ (bs : List ℕ) where
 
         whole : (l : Found) → FoundAfter w.next l → (k : Found) → FoundAfter l.next k → Within w.next (w.next + 6) k.next
         whole l after k later = record { near = omega (arith, after.near, later.near); inside = λ there. later.inside }
-
-pub run_fault : (n L : ℕ) (bs : List ℕ) (K : ℕ) (w : Walk) (number place : ℕ) → run_at n L bs K w ≡ refused number place → 0 < number
-run_fault n L bs K w number place is = (of_fault number place (run_placed bs n L K w) is).some

@@ -1,9 +1,9 @@
 -- Where a run ends, as the code's shifts find it: a spot that a leaf of level l may start at is so many leaves of the level into its root.
 -- Assumes nothing.
-use mathlib.Core.Path.{◌≡◌, refl, ap, ap₂, ◌∙◌, sym, subst⁻¹}
+use mathlib.Core.Path.{◌≡◌, refl, ap, ap₂, ◌∙◌, sym}
 use mathlib.Core.Bool.{Bool, true, false, true≢false, ◌&&◌}
 use Prim.Native.Nat.{ℕ, zero, suc, ◌+◌, ◌-◌, ◌*◌, ◌/◌, ◌%◌, ◌^◌, ◌≤◌, ◌<◌}
-use native.Mathlib.Nat.{div-add-mod', div-lt_iff_lt-mul, div-eq_of_lt, mod-eq_of_lt, mod-lt, div-le_self, mul-le-mul_right, one-mul}
+use native.Mathlib.Nat.{div-add-mod', div-lt_iff_lt-mul, div-eq_of_lt, mod-eq_of_lt, mod-lt, mul-le-mul_right, one-mul}
 use native.Mathlib.Decide.{ℕ_discrete}
 use native.Mathlib.Omega.{arith}
 use lib.Dec.{ltb}
@@ -13,7 +13,7 @@ use Rattle.tree.proofs.Digits.{power_bits}
 use Rattle.paper.specs.Outcome.{rows}
 use Rattle.leaves.specs.Leaves.{leaf, Spot, spot_at, span}
 use Rattle.leaves.proofs.Span.{power_pos, fill}
-use Rattle.leaves.proofs.Shift.{bits_le, bits_left, root_cells, shifted}
+use Rattle.leaves.proofs.Shift.{bits_le, bits_left, shifted}
 use Rattle.format.specs.Reading.{upto, fits, leaves_from, end_from}
 use Rattle.format.proofs.Units.{moved, after_moved, leaves_moved, fits_moved}
 
@@ -82,26 +82,7 @@ module _ (b L l : ℕ) (narrow : b * L ≤ 63) (shallow : l ≤ L) where
   pub level_is : 1 * 2 ^ (b * l) % 2 ^ 64 ≡ (2 ^ b) ^ l
   level_is = each_is (b * l) level_bits ∙ sym (power_bits b l)
 
-  pub some_level : 0 < 1 * 2 ^ (b * l) % 2 ^ 64
-  some_level = subst⁻¹ (λ (m : ℕ). 0 < m) level_is (power_pos (2 ^ b) l (pow_pos b))
-
-  pub some_span : 0 < 1 * 2 ^ (b * (L - l)) % 2 ^ 64
-  some_span = subst⁻¹ (λ (m : ℕ). 0 < m) span_is (power_pos (2 ^ b) (L - l) (pow_pos b))
-
-  pub rest_none : (q : ℕ) → q % (1 * 2 ^ (b * (L - l)) % 2 ^ 64) ≡ 0 → q % span (2 ^ b) L l ≡ 0
-  rest_none q none = ap (λ (m : ℕ). q % m) (sym span_is) ∙ none
-
-  pub rest_some : (q : ℕ) → (q % (1 * 2 ^ (b * (L - l)) % 2 ^ 64) ≡ 0 → ⊥) → q % span (2 ^ b) L l ≡ 0 → ⊥
-  rest_some q some none = some (ap (λ (m : ℕ). q % m) span_is ∙ none)
-
   module _ (r q k : ℕ) (proper : q < (2 ^ b) ^ L) where
-    pub end_small : k < 2 ^ 32 → q / 2 ^ (b * (L - l)) + k < 2 ^ 64
-    end_small few = omega (arith, root_cells b L narrow, div-le_self q (2 ^ (b * (L - l))))
-
-    pub root_small : r ≤ 65535 → k < 2 ^ 32 → r + (q / 2 ^ (b * (L - l)) + k) / 2 ^ (b * l) < 2 ^ 64
-    root_small low few =
-        omega (arith, root_cells b L narrow, div-le_self q (2 ^ (b * (L - l))), div-le_self (q / 2 ^ (b * (L - l)) + k) (2 ^ (b * l)))
-
     pub after_spot : q % span (2 ^ b) L l ≡ 0
         → spot_at (r + (q / 2 ^ (b * (L - l)) + k) / 2 ^ (b * l)) ((q / 2 ^ (b * (L - l)) + k) % (1 * 2 ^ (b * l) % 2 ^ 64) * 2 ^ (b * (L - l)) % 2 ^ 64)
         ≡ end_from (2 ^ b) L (spot_at r q) l k

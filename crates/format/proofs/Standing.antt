@@ -14,7 +14,8 @@ use Rattle.leaves.specs.Leaves.{Leaf}
 use Rattle.numbers.specs.Numbers.{Found, found, byte_at, number_at}
 use Rattle.leaves.specs.Calls.{out_of_range}
 use Rattle.format.specs.Reading.{opens, Head, after_runs, after_roots, head_at, headed, after_last, leaves_from, FoundRun, after_count, after_level, Walk, start, keep, run_at, sound_from, grid_at}
-use Rattle.format.proofs.Tests.{then_is, then_stops, passes, not_tagged}
+use Rattle.paper.proofs.Tests.{passed_by}
+use Rattle.format.proofs.Tests.{then_is, then_stops, not_tagged}
 use Rattle.format.proofs.Taking.{mapped_refused}
 use Rattle.format.proofs.Following.{runs_at, run_step, apart}
 
@@ -154,12 +155,12 @@ module _ (bs more : List ℕ) where
 
   head_stands : opens bs ≡ true → Settled (head_at bs) → head_at (bs ++ more) ≡ head_at bs
   head_stands h s =
-      passes (not (opens (bs ++ more))) 18 0 _ (ap not (tag_stands (opens_long h) ∙ h))
+      passed_by (not (opens (bs ++ more))) 18 0 _ (ap not (tag_stands (opens_long h) ∙ h))
       ∙ then_stands (number_at bs 4) (number_at (bs ++ more) 4) (after_roots bs) (after_roots (bs ++ more)) (number_stands 4) (λ k.
       when_wrong (out_of_range k.value) 17 4 _ _
       (then_stands (number_at bs k.next) (number_at (bs ++ more) k.next) (after_runs k) (after_runs k) (number_stands k.next) (λ r t. refl)))
-      (subst Settled (passes (not (opens bs)) 18 0 _ (ap not h)) s)
-      ∙ sym (passes (not (opens bs)) 18 0 _ (ap not h))
+      (subst Settled (passed_by (not (opens bs)) 18 0 _ (ap not h)) s)
+      ∙ sym (passed_by (not (opens bs)) 18 0 _ (ap not h))
 
   module _ (n L number at : ℕ) (long : number ≡ 18 → 4 ≤ length bs) (there : number ≡ 19 → ⊥) (e : grid_at n L bs ≡ refused number at) where
     -- another tag stays another, once its four bytes are there

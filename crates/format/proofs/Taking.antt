@@ -1,5 +1,5 @@
 -- What an accepted outcome came from: each test that was passed, of a run and of what stands in front of the runs. Assumes nothing.
-use mathlib.Core.Path.{◌≡◌, refl, ap, sym, subst}
+use mathlib.Core.Path.{◌≡◌, refl, subst}
 use mathlib.Core.Bool.{true, not, ◌||◌}
 use mathlib.Core.List.{List}
 use Prim.Native.Nat.{ℕ, ◌+◌, ◌≤◌, ◌<◌}
@@ -22,19 +22,10 @@ pub mapped_accepted : {A B : Type 0} (g : A → B) (o : Outcome A) (b : B) → m
 mapped_accepted g (accepted a) b h = (a, (refl, accepted_same (g a) b h))
 mapped_accepted g (refused number at) b h = never b number at h
 
-again : {A B : Type 0} → B → Outcome A → Outcome B
-again b (accepted a) = accepted b
-again b (refused number at) = refused number at
-
 -- a refusal under a map is a refusal
 pub mapped_refused : {A B : Type 0} (f : A → B) (o : Outcome A) (number at : ℕ) → refused number at ≡ mapped f o → o ≡ refused number at
-unfolding again
-mapped_refused f (accepted a) number at e = sym (ap (again a) e)
-mapped_refused f (refused m j) number at e = sym (ap refusal e)
-  where
-    refusal : {A B : Type 0} → Outcome A → Outcome B
-    refusal (accepted a) = refused 0 0
-    refusal (refused m j) = refused m j
+mapped_refused f (accepted a) number at e = cc
+mapped_refused f (refused m j) number at e = cc
 
 -- ---- one run
 module _ (n L K : ℕ) (bs : List ℕ) where

@@ -9,6 +9,7 @@ use native.Mathlib.Numerals.{add-one}
 use native.Mathlib.Decide.{ℕ_discrete, dec_lt}
 use native.Mathlib.Omega.{arith}
 use lib.Dec.{ltb, eqb}
+use lib.Ieee.Nearest.{div_mono}
 use borrow.Author.Tests.{lt-ltb, le-ltb, eq-eqb, ne_eqb}
 use Rattle.paper.specs.Outcome.{rows}
 use Rattle.leaves.specs.Leaves.{Leaf, leaf, Spot, spot_at, span, past, end_of}
@@ -17,13 +18,7 @@ use Rattle.format.specs.Reading.{upto, leaf_from, fits, leaves_from, end_from}
 
 -- a larger number has no smaller quotient
 pub quotient_order : (m a b : ℕ) → 0 < m → a ≤ b → a / m ≤ b / m
-quotient_order m a b some less = by (dec_lt (b / m) (a / m))
-  where
-    by : Dec (b / m < a / m) → a / m ≤ b / m
-    by (yes over) =
-        let next : b / m + 1 ≤ a / m = omega arith in
-        absurd (omega (arith, div-add-mod' a m, div-add-mod' b m, mul-le-mul_right m next, more_mul (b / m) m, mod-lt b some))
-    by (no upto) = omega arith
+quotient_order m a b some less = div_mono a m b m some some (mul-le-mul_right m less)
 
 -- ---- not past the last root
 pub upto_within : (K : ℕ) (c : Spot) → c.root < K → upto K c ≡ true
@@ -37,9 +32,6 @@ upto_past K c past = simp (le-ltb c.root K (omega arith), ne_eqb c.root K (λ sa
 
 pub upto_over : (K : ℕ) (c : Spot) → c.root ≡ K → (c.cell ≡ 0 → ⊥) → upto K c ≡ false
 upto_over K c full some = simp (le-ltb c.root K (omega arith), eq-eqb c.root K full, ne_eqb c.cell 0 some)
-
-pub upto_last : (K : ℕ) (c : Spot) → c.root ≡ K → eqb c.cell 0 ≡ upto K c
-upto_last K c full = sym (simp (le-ltb c.root K (omega arith), eq-eqb c.root K full))
 
 pub upto_root : (K : ℕ) (c : Spot) → upto K c ≡ true → c.root ≤ K
 upto_root K c within = by (dec_lt K c.root)

@@ -12,18 +12,19 @@
 --   in_order fs whole   "fields left to right": the first of the seven with a refusal; then field 8, unless the line is whole, with no eighth field
 --   read s              what the input s asks for: the form that is ordered, or its refusal with the field as place
 --   longest_input       the first bytes, which decide: seven fields of nine digits, six semicolons, LF, and one byte more
---   form_of             the outcome that a FormAnswer stands for
+--   form_of             the outcome that the result of `read` stands for
 --
 -- Assumes nothing.
 use Rattle.std.specs.Prelude.{Bool, not, ◌&&◌, List, [], ℕ, ◌-◌, ◌*◌, ◌^◌, eqb, leb, ltb, length, get_or}
-use Rattle.paper.specs.Outcome.{Outcome, accepted, refused, refuse_when_at, fault_when, scan, rows}
+use Rattle.std.specs.declared.result.Result.{Result}
+use Rattle.paper.specs.declared.Refusal.{Refusal}
+use Rattle.paper.specs.Outcome.{Outcome, accepted, refuse_when_at, fault_when, scan, rows}
+use Rattle.paper.specs.Refusals.{outcome_of}
 use Rattle.tree.specs.Anchors.{HIGHEST}
 use Rattle.leaves.specs.Leaves.{CHILDREN}
 use Rattle.leaves.specs.Calls.{limit, out_of_range}
 use Rattle.fields.specs.Fields.{fields, ended, is_number, value}
 use Rattle.forms.specs.declared.Form.{Form}
-use Rattle.forms.specs.declared.FormAnswer.{FormAnswer}
-use Rattle.forms.specs.declared.FormAnswer.TheVariants as answer
 
 abbrev pub given : List (List ℕ) → ℕ → List ℕ
 given fs i = get_or fs (i - 1) []
@@ -69,6 +70,5 @@ read s = in_order (fields s) (ended s)
 abbrev pub longest_input : ℕ
 longest_input = 71
 
-abbrev pub form_of : FormAnswer → Outcome Form
-form_of (answer.Is f) = accepted f
-form_of (answer.Refused number place) = refused number place
+abbrev pub form_of : Result Form Refusal → Outcome Form
+form_of r = outcome_of r

@@ -1,32 +1,15 @@
-// One field of the order line: its number, and its refusal.
-ghost use Rattle.forms.specs.Inner.{Taken};
+// One field of the order line.
+ghost use Rattle.std.specs.Prelude.{◌≡◌};
+ghost use Rattle.fields.specs.Inner.{numbered_of};
+ghost use Rattle.forms.specs.Inner.{taken};
 
-use crate::range;
 use fields::digits;
-use fields::digits::Numbered;
+use fields::digits::Number;
+use paper::Refusal;
 
-// A field: its refusal, 0 where there is none, and then its number and where it ends.
-#[derive(Clone, Copy)]
-pub(crate) struct Found {
-    pub fault: u8,
-    pub number: u64,
-    pub end: usize,
-}
-
-// Field i, which begins at `at`: 23 where it is missing or no number, then what is outside its range.
-pub(crate) fn take(input: &[u8], at: usize, i: usize, k: u64, highest: u64) -> Found
-    ensures { Taken input.now at i k highest result }
+// The number in the field that begins at `at`, and where it ends. Refused: 23 at the field where it is missing or no number.
+pub(crate) fn take(input: &[u8], at: usize, field: u64) -> Result<Number, Refusal>
+    ensures { numbered_of result ≡ taken input.now at field }
 {
-    let Numbered::Is(number, end) = digits::number_at(input, at) else {
-        return Found {
-            fault: 23,
-            number: 0,
-            end: at,
-        };
-    };
-    Found {
-        fault: range::outside(i, number, k, highest),
-        number,
-        end,
-    }
+    digits::number_at(input, at).map_err(|_| Refusal::UnfitField(field))
 }

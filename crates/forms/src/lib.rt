@@ -5,6 +5,7 @@ ghost use Rattle.std.specs.Prelude.{◌≡◌};
 ghost use Rattle.forms.specs.Forms.{form_of, read};
 
 use fields::cut;
+use paper::Refusal;
 
 mod field;
 mod range;
@@ -21,42 +22,31 @@ pub struct Form {
     pub shares: u16,
 }
 
-// What the input asks for, or the refusal's number and the field.
-#[derive(Clone, Copy)]
-pub enum FormAnswer {
-    Is(Form),
-    Refused(u8, u64),
-}
-
 // What the input asks for. Refused: the first field with a fault; 23 at field 8 where anything but one last LF follows the seventh.
-pub fn read(input: &[u8]) -> FormAnswer
+pub fn read(input: &[u8]) -> Result<Form, Refusal>
     ensures { form_of result ≡ read input.now }
 {
-    // The numbers by their fields, counted from 1.
-    let mut v = [0u64; 8];
-    let mut at = 0;
-    let mut end = 0;
-    let mut i = 1;
-    while i < 8 {
-        let found = field::take(input, at, i, v[4], v[5]);
-        if found.fault != 0 {
-            return FormAnswer::Refused(found.fault, i as u64);
-        }
-        v[i] = found.number;
-        end = found.end;
-        at = cut::after(input, end);
-        i += 1;
+    let order = field::take(input, 0, 1)?;
+    let site = field::take(input, cut::after(input, order.end), 2)?;
+    let model = field::take(input, cut::after(input, site.end), 3)?;
+    let roots = field::take(input, cut::after(input, model.end), 4)?;
+    range::check_count(roots.value, 4)?;
+    let highest = field::take(input, cut::after(input, roots.end), 5)?;
+    range::check_highest(highest.value, 5)?;
+    let shares = field::take(input, cut::after(input, highest.end), 6)?;
+    range::check_count(shares.value, 6)?;
+    let level = field::take(input, cut::after(input, shares.end), 7)?;
+    range::check_level(level.value, roots.value, highest.value, 7)?;
+    if !cut::closing(input, level.end) {
+        return Err(Refusal::UnfitField(8));
     }
-    if !cut::closing(input, end) {
-        return FormAnswer::Refused(23, 8);
-    }
-    FormAnswer::Is(Form {
-        order: v[1],
-        site: v[2],
-        model: v[3],
-        roots: v[4],
-        level: v[7],
-        leaves: (v[4] << (3 * v[7])) as u32,
-        shares: v[6] as u16,
+    Ok(Form {
+        order: order.value,
+        site: site.value,
+        model: model.value,
+        roots: roots.value,
+        level: level.value,
+        leaves: (roots.value << (3 * level.value)) as u32,
+        shares: shares.value as u16,
     })
 }

@@ -18,7 +18,7 @@ use Rattle.numbers.specs.Numbers.{highest}
 use Rattle.format.specs.File.{file_of}
 use Rattle.format.specs.Reading.{Grid, grid_at}
 use Rattle.format.specs.Laws.{ValidGrid, FileOf}
-use Rattle.format.proofs.Tests.{passes}
+use Rattle.paper.proofs.Tests.{passed_by}
 use Rattle.format.proofs.Taking.{then_accepted}
 use Rattle.format.proofs.ReadBack.{read_back}
 use Rattle.format.proofs.Accepting.{valid_grid, accepted_file}
@@ -54,7 +54,7 @@ module _ (n L : ℕ) (positive : 0 < n) (low : L ≤ highest) where
       let sound = wrote_list n L K cs bytes file h in
       let few : length (leaves cs) ≤ limit = omega (arith, sound.few, leaves_length cs) in
       ap (λ (bs : List ℕ). read n L bs m) (sym (wrote_file n L K cs bytes file h))
-      ∙ passes (not (equal_columns m)) 11 0 _ (ap not equal)
+      ∙ passed_by (not (equal_columns m)) 11 0 _ (ap not equal)
       ∙ ap (λ (o : Outcome Grid). and_then o (λ (g : Grid). room_for (length g.leaves) (room m) g))
       (read_back n L positive low K (leaves cs) sound.some_root sound.few_roots few sound.valid)
 

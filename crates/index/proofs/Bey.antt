@@ -13,12 +13,12 @@ use Rattle.triangle.specs.declared.Triangle.{Triangle}
 use Rattle.triangle.specs.Elements.{triangle_to, child}
 use Rattle.triangle.specs.Elements as triangles
 use Rattle.triangle.specs.Points.{corner}
-use Rattle.triangle.proofs.Laws.{known}
+use Rattle.triangle.specs.Lawful.{known}
 use Rattle.prism.specs.declared.Prism.{Prism}
 use Rattle.prism.specs.Elements.{prism_to, fault, plan}
 use Rattle.prism.specs.Elements as prisms
 use Rattle.prism.specs.Points as prism_points
-use Rattle.prism.proofs.Laws.{triangle_sound}
+use Rattle.prism.specs.Lawful.{triangle_sound}
 use Rattle.index.specs.Bey.{Midpoint, PrismMidpoint, Ends, ends, bey_child, bey_number, bey_prism_child, Bey}
 
 module _ (L l x y : ℕ) where

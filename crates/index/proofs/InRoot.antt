@@ -15,15 +15,15 @@ use Rattle.rows.specs.declared.Step.{Step}
 use Rattle.rows.specs.Rows.{step, parent_kind, number_of}
 use Rattle.rows.proofs.Tables.{parent_kind_lt, number_of_lt, child_row_slot, child_inside, parent_inside}
 use Rattle.rows.proofs.Siblings.{by_rule}
-use Rattle.line.proofs.Laws.{grid_sound}
-use Rattle.triangle.proofs.Laws.{units_inside, known_units}
+use Rattle.line.specs.Lawful.{grid_sound}
+use Rattle.triangle.specs.Lawful.{units_inside, known_units}
 use Rattle.triangle.proofs.Inside.{multiple_grid}
-use Rattle.triangle.proofs.Laws as triangle_laws
+use Rattle.triangle.specs.Lawful as triangle_laws
 use Rattle.prism.specs.declared.Prism.{Prism}
 use Rattle.prism.specs.Elements.{prism_to, plan}
 use Rattle.prism.specs.Points.{OnGrid}
 use Rattle.prism.proofs.Inside.{refusal_4}
-use Rattle.prism.proofs.Laws.{grids, joined_sound}
+use Rattle.prism.specs.Lawful.{grids, joined_sound}
 use Rattle.index.specs.Pencil.{type_above, page, page_of, at_root}
 
 module _ (x y t : ℕ) (x_bit : x < 2) (y_bit : y < 2) (typed : t < 2) where

@@ -11,7 +11,7 @@ use Rattle.tree.specs.Words.{position_at}
 use Rattle.tree.proofs.Anchor.{side_suc, units_back, bit_lt}
 use Rattle.prism.specs.declared.Prism.{Prism}
 use Rattle.prism.specs.Elements.{prism_to, plan, parent, number}
-use Rattle.prism.proofs.Laws.{lawful, grids}
+use Rattle.prism.specs.Lawful.{lawful, grids}
 use Rattle.triangle.specs.Elements as triangle
 use Rattle.index.specs.Pencil.{row, type_above, page, page_of, row_for, base8, Pencil}
 use Rattle.index.proofs.InRoot.{type_above_lem, ends_0, ends_1}

@@ -11,13 +11,13 @@ use Rattle.triangle.specs.declared.Triangle.{Triangle}
 use Rattle.rows.specs.Rows.{child_row}
 use Rattle.triangle.specs.Elements.{triangle_to}
 use Rattle.rows.proofs.Tables.{each_child, each_face, child_row_small}
-use Rattle.triangle.proofs.Laws.{Known, known}
+use Rattle.triangle.specs.Lawful.{Known, known}
 use Rattle.prism.specs.Elements.{prism_to, plan}
-use Rattle.prism.proofs.Laws.{grids}
-use Rattle.line.proofs.Laws as line_laws
+use Rattle.prism.specs.Lawful.{grids}
+use Rattle.line.specs.Lawful as line_laws
 use Rattle.triangle.specs.Elements as triangle
-use Rattle.triangle.proofs.Laws as triangle_laws
-use Rattle.prism.proofs.Laws as prism_laws
+use Rattle.triangle.specs.Lawful as triangle_laws
+use Rattle.prism.specs.Lawful as prism_laws
 use Rattle.index.specs.Index.{bit, line_index, triangle_index, prism_index}
 use Rattle.index.specs.Rank.{Ranked}
 use Rattle.index.proofs.Rise.{Marked, ranked_of_marked}

@@ -2,6 +2,8 @@
 ghost use Rattle.leaves.specs.Leaves.{columns};
 ghost use Rattle.interface.specs.Calls.{WriteResult, ReadResult};
 
+use columns::LentColumns;
+use leaves::LeafList;
 use results::{GridResult, NumberResult};
 
 // The file of a list of k roots, at the front of the bytes.
@@ -16,7 +18,12 @@ pub extern "C" fn gw_file_write(
     ensures { WriteResult k result (columns roots.now levels.now positions.now)
         bytes.old bytes.new }
 {
-    results::of_number(writer::write(k, roots, levels, positions, bytes))
+    let list = LeafList {
+        roots,
+        levels,
+        positions,
+    };
+    writer::write(k, &list, bytes).into()
 }
 
 // The leaves of a file, at the front of the columns.
@@ -31,5 +38,10 @@ pub extern "C" fn gw_file_read(
         (columns roots.old levels.old positions.old)
         (columns roots.new levels.new positions.new) }
 {
-    results::of_grid(reader::read(bytes, roots, levels, positions))
+    let mut lent = LentColumns {
+        roots,
+        levels,
+        positions,
+    };
+    reader::read(bytes, &mut lent).into()
 }

@@ -7,6 +7,8 @@ ghost use Rattle.balance.specs.Balance.{balanced};
 ghost use Rattle.results.specs.Results.{pass_result, truth_result};
 ghost use Rattle.interface.specs.Calls.{UniformResult, AdaptResult, SharesResult};
 
+use columns::LentColumns;
+use leaves::LeafList;
 use results::NumberResult;
 
 #[unsafe(no_mangle)]
@@ -14,7 +16,12 @@ pub extern "C" fn gw_list_check(k: u16, roots: &[u16], levels: &[u8], positions:
     ensures { result ≡ pass_result (check_list CHILDREN HIGHEST k
         (columns roots.now levels.now positions.now)) }
 {
-    results::of_pass(leaves::check_list(k, roots, levels, positions))
+    let list = LeafList {
+        roots,
+        levels,
+        positions,
+    };
+    results::of_pass(leaves::check_list(k, &list))
 }
 
 // A uniform start: the leaves of k roots, all at one level, at the front of the columns.
@@ -30,7 +37,12 @@ pub extern "C" fn gw_list_uniform(
         (columns roots.old levels.old positions.old)
         (columns roots.new levels.new positions.new) }
 {
-    results::of_number(columns::uniform(k, level, roots, levels, positions))
+    let mut lent = LentColumns {
+        roots,
+        levels,
+        positions,
+    };
+    columns::uniform(k, level, &mut lent).into()
 }
 
 #[unsafe(no_mangle)]
@@ -43,7 +55,12 @@ pub extern "C" fn gw_list_balanced(
     ensures { result ≡ truth_result (balanced CHILDREN HIGHEST k
         (columns roots.now levels.now positions.now)) }
 {
-    results::of_truth(balance::balanced(k, roots, levels, positions))
+    let list = LeafList {
+        roots,
+        levels,
+        positions,
+    };
+    balance::balanced(k, &list).into()
 }
 
 // The list after one pass over its marks, at the front of the new columns.
@@ -62,16 +79,17 @@ pub extern "C" fn gw_list_adapt(
         (columns new_roots.old new_levels.old new_positions.old)
         (columns new_roots.new new_levels.new new_positions.new) }
 {
-    results::of_number(adaption::adapt(
-        k,
+    let list = LeafList {
         roots,
         levels,
         positions,
-        marks,
-        new_roots,
-        new_levels,
-        new_positions,
-    ))
+    };
+    let mut lent = LentColumns {
+        roots: new_roots,
+        levels: new_levels,
+        positions: new_positions,
+    };
+    adaption::adapt(k, &list, marks, &mut lent).into()
 }
 
 // The p + 1 boundaries of p shares, at the front of the column.
@@ -88,5 +106,10 @@ pub extern "C" fn gw_list_shares(
     ensures { SharesResult k p result (columns roots.now levels.now positions.now)
         weights.now boundaries.old boundaries.new }
 {
-    results::of_pass(shares::shares(k, p, roots, levels, positions, weights, boundaries))
+    let list = LeafList {
+        roots,
+        levels,
+        positions,
+    };
+    results::of_pass(shares::shares(k, p, &list, weights, boundaries))
 }

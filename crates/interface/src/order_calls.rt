@@ -8,7 +8,7 @@ use results::NumberResult;
 pub extern "C" fn gw_order(input: &[u8], out: &mut [u8]) -> NumberResult
     ensures { OrderResult result input.now out.old out.new }
 {
-    results::of_number(orders::answer(input, out))
+    orders::answer(input, out).into()
 }
 
 // What the converter prints on a stored line, at the front of the buffer. The value is how many bytes.
@@ -16,5 +16,5 @@ pub extern "C" fn gw_order(input: &[u8], out: &mut [u8]) -> NumberResult
 pub extern "C" fn gw_convert(input: &[u8], out: &mut [u8]) -> NumberResult
     ensures { ConvertResult result input.now out.old out.new }
 {
-    results::of_number(converter::convert(input, out))
+    converter::convert(input, out).into()
 }

@@ -13,7 +13,7 @@ use results::PointResult;
 pub extern "C" fn gw_corner_point(level: u8, position: u64, corner: u8, root: Root) -> PointResult
     ensures { result ≡ point_result (corner_point level position corner root) }
 {
-    results::of_point(corners::corner_point(level, position, corner, root))
+    corners::corner_point(level, position, corner, root).into()
 }
 
 // The points of a corner at each of some positions of one level, one coordinate a column.

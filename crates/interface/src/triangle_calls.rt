@@ -6,69 +6,71 @@ ghost use Rattle.triangle.specs.Columns.{columns, family};
 ghost use Rattle.results.specs.Results.{triangle_result, number_result, truth_result, compare_result};
 
 use results::{CompareResult, NumberResult, TriangleResult};
-use triangle::Triangle;
+use tree::columns::Columns;
+use tree::element::Element;
+use triangle::{Triangle, Triangles};
 
 #[unsafe(no_mangle)]
 pub extern "C" fn gw_triangle_at(level: u8, position: u64) -> TriangleResult
     ensures { result ≡ triangle_result (Calls.at triangle level position) }
 {
-    results::of_triangle(Triangle::at(level, position))
+    Triangle::at(level, position).into()
 }
 
 #[unsafe(no_mangle)]
 pub extern "C" fn gw_triangle_position(e: Triangle) -> NumberResult
     ensures { result ≡ number_result (Calls.position triangle e) }
 {
-    results::of_number(e.position())
+    e.position().into()
 }
 
 #[unsafe(no_mangle)]
 pub extern "C" fn gw_triangle_parent(e: Triangle) -> TriangleResult
     ensures { result ≡ triangle_result (Calls.parent triangle e) }
 {
-    results::of_triangle(e.parent())
+    e.parent().into()
 }
 
 #[unsafe(no_mangle)]
 pub extern "C" fn gw_triangle_child(e: Triangle, number: u8) -> TriangleResult
     ensures { result ≡ triangle_result (Calls.child triangle e number) }
 {
-    results::of_triangle(e.child(number))
+    e.child(number).into()
 }
 
 #[unsafe(no_mangle)]
 pub extern "C" fn gw_triangle_successor(e: Triangle) -> TriangleResult
     ensures { result ≡ triangle_result (Calls.successor triangle e) }
 {
-    results::of_triangle(e.successor())
+    e.successor().into()
 }
 
 #[unsafe(no_mangle)]
 pub extern "C" fn gw_triangle_first_descendant(e: Triangle, level: u8) -> TriangleResult
     ensures { result ≡ triangle_result (Calls.first triangle e level) }
 {
-    results::of_triangle(e.first_descendant(level))
+    e.first_descendant(level).into()
 }
 
 #[unsafe(no_mangle)]
 pub extern "C" fn gw_triangle_last_descendant(e: Triangle, level: u8) -> TriangleResult
     ensures { result ≡ triangle_result (Calls.last triangle e level) }
 {
-    results::of_triangle(e.last_descendant(level))
+    e.last_descendant(level).into()
 }
 
 #[unsafe(no_mangle)]
 pub extern "C" fn gw_triangle_neighbour(e: Triangle, face: u8) -> TriangleResult
     ensures { result ≡ triangle_result (Calls.neighbour triangle e face) }
 {
-    results::of_triangle(e.neighbour(face))
+    e.neighbour(face).into()
 }
 
 #[unsafe(no_mangle)]
 pub extern "C" fn gw_triangle_compare(e: Triangle, f: Triangle) -> CompareResult
     ensures { result ≡ compare_result (Calls.order triangle e f) }
 {
-    results::of_comparison(e.compare(f))
+    e.compare(f).into()
 }
 
 #[unsafe(no_mangle)]
@@ -80,5 +82,12 @@ pub extern "C" fn gw_triangle_family(
 ) -> NumberResult
     ensures { result ≡ truth_result (family (columns xs.now ys.now levels.now kinds.now)) }
 {
-    results::of_truth(Triangle::family(xs, ys, levels, kinds))
+    Triangles {
+        xs,
+        ys,
+        levels,
+        kinds,
+    }
+    .family()
+    .into()
 }

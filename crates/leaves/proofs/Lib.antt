@@ -10,6 +10,6 @@ pub mod Turns
 pub mod Entries
 pub mod Along
 pub mod Ancestors
-pub mod Powers
 pub mod Steps
 pub mod Columns
+pub mod Lists

@@ -8,7 +8,7 @@ use lib.ListN.{length}
 use borrow.Author.Tests.{ltb-false, eqb-true, eqb-false, not-false, le-ltb, eq-eqb, ne_eqb}
 use Rattle.paper.specs.Outcome.{Outcome, accepted, refused, passed}
 use Rattle.paper.specs.Memory.{room_for}
-use Rattle.paper.proofs.Tests.{refused_by, passed_by, or_none}
+use Rattle.paper.proofs.Tests.{passed_by, or_none}
 use Rattle.paper.proofs.Scan.{accepted_of, accepted_by, carry}
 use Rattle.leaves.specs.Leaves.{Columns, leaves, room, equal_columns, spot_at}
 use Rattle.leaves.specs.Calls.{limit, most, out_of_range, walked, listed, check_list}
@@ -39,16 +39,6 @@ module _ (n L K : ℕ) (in_range fitting : Bool) (cs : Columns) where
   wrong_length = eqb (room cs) 0 || ltb limit (room cs)
 
   module _ {A : Type 0} (rest : Outcome A) where
-    pub listed_17 : wrong_number ≡ true → listed n L K in_range fitting cs rest ≡ refused 17 0
-    listed_17 wrong = refused_by wrong_number 17 0 _ wrong
-
-    pub listed_11 : wrong_number ≡ false → right_columns ≡ false → listed n L K in_range fitting cs rest ≡ refused 11 0
-    listed_11 number wrong = passed_by wrong_number 17 0 _ number ∙ refused_by (not right_columns) 11 0 _ (ap not wrong)
-
-    pub listed_11_length : wrong_number ≡ false → right_columns ≡ true → wrong_length ≡ true → listed n L K in_range fitting cs rest ≡ refused 11 0
-    listed_11_length number columns wrong =
-        passed_by wrong_number 17 0 _ number ∙ passed_by (not right_columns) 11 0 _ (ap not columns) ∙ refused_by wrong_length 11 0 _ wrong
-
     pub listed_on : wrong_number ≡ false → right_columns ≡ true → wrong_length ≡ false
         → listed n L K in_range fitting cs rest ≡ walked n L K 0 (spot_at 0 0) (leaves cs) rest
     listed_on number columns size =

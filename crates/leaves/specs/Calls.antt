@@ -19,10 +19,11 @@
 --
 -- Assumes nothing.
 use Rattle.std.specs.Prelude.{Bool, true, not, ◌&&◌, ◌||◌, List, [], ◌∷◌, ℕ, suc, ◌*◌, ◌^◌, leb, ltb, eqb, length}
+use Rattle.std.specs.declared.result.Result.{Result}
 use Rattle.paper.specs.Outcome.{Outcome, passed, refuse_when, refuse_when_at, fault_when, mapped}
 use Rattle.paper.specs.Memory.{room_for, Fulfils}
-use Rattle.paper.specs.declared.NumberAnswer.{NumberAnswer}
-use Rattle.paper.specs.Readings.{value_of}
+use Rattle.paper.specs.declared.Refusal.{Refusal}
+use Rattle.paper.specs.Refusals.{outcome_of}
 use Rattle.tree.specs.Anchors.{HIGHEST}
 use Rattle.leaves.specs.Leaves.{CHILDREN, Leaf, Columns, leaves, equal_columns, room, front, Spot, spot_at, begin, end_of, uniform_list}
 
@@ -69,5 +70,5 @@ module _ (n L : ℕ) where
       (refuse_when (ltb limit (K * n ^ l)) 15
       (room_for (K * n ^ l) (room m) (uniform_list n L K l)))))
 
-abbrev pub Started : ℕ → ℕ → NumberAnswer → Columns → Columns → Type 0
-Started k level r m m' = Fulfils value_of (mapped length) front (uniform CHILDREN HIGHEST k level m) r m m'
+abbrev pub Started : ℕ → ℕ → Result ℕ Refusal → Columns → Columns → Type 0
+Started k level r m m' = Fulfils outcome_of (mapped length) front (uniform CHILDREN HIGHEST k level m) r m m'

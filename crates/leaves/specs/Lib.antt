@@ -2,4 +2,5 @@ pub mod Leaves
 pub mod Calls
 pub mod Laws
 pub mod Cells
+pub mod Lists
 pub mod Inner

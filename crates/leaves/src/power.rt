@@ -1,7 +1,7 @@
 // Powers of the number of children: how many elements a level has, and how many smallest cells an element holds.
 ghost use Rattle.std.specs.Prelude.{◌≡◌, ◌*◌, ◌^◌, ◌≤◌};
 
-// By a shift, or of eight children from a table, which takes less time. Its last arm is never taken.
+// By a shift, or of eight children from a table, which takes less time.
 pub(crate) fn of_children(bits: u8, times: u8) -> u64
     requires { bits * times ≤ 63 }
     ensures { result ≡ (2 ^ bits) ^ times }
@@ -32,6 +32,6 @@ pub(crate) fn of_children(bits: u8, times: u8) -> u64
         19 => 144115188075855872,
         20 => 1152921504606846976,
         21 => 9223372036854775808,
-        _ => 0,
+        _ => unreachable!(),
     }
 }

@@ -1,52 +1,50 @@
-// One leaf of a list: whether it starts where it should, and which fault it has if it doesn't.
-ghost use Rattle.std.specs.Prelude.{◌≡◌, ◌&&◌, ◌*◌, ◌^◌, ◌≤◌, ◌<◌, ltb, eqb};
-ghost use Rattle.leaves.specs.Leaves.{leaf};
+// One leaf of a list: whether it starts where it should, and how far it goes.
+ghost use Rattle.std.specs.Prelude.{◌≡◌, not, ◌*◌, ◌^◌, ◌≤◌, ◌<◌, eqb};
+ghost use Rattle.paper.specs.Outcome.{accepted, refuse_when_at};
+ghost use Rattle.paper.specs.Refusals.{outcome_of};
+ghost use Rattle.leaves.specs.Leaves.{span};
 ghost use Rattle.leaves.specs.Calls.{leaf_fault};
+ghost use Rattle.leaves.specs.Lists.{leaf_of};
 ghost use Rattle.leaves.specs.Inner.{spot_of};
 
-use crate::Cursor;
+use crate::{Leaf, power};
+use paper::Refusal;
 
-// The first of 1, 5, 12 that a leaf has where the list has come to, or 0.
-pub(crate) fn leaf_fault(
+// Where a list has come to: a root, and a smallest cell of it.
+#[derive(Clone, Copy)]
+pub(crate) struct Cursor {
+    pub(crate) root: u16,
+    pub(crate) cell: u64,
+}
+
+// How many smallest cells a leaf holds that starts where the list has come to. Refused at the leaf's place: 1, 5, 12.
+#[inline(always)]
+pub(crate) fn over(
     bits: u8,
     highest: u8,
     k: u16,
     at: Cursor,
-    root: u16,
-    level: u8,
-    position: u64,
-) -> u8
-    requires { (0 < bits) × (bits * highest ≤ 63) }
-    ensures { result ≡ leaf_fault (2 ^ bits) highest k (spot_of at) (leaf root level position) }
+    leaf: Leaf,
+    place: u64,
+) -> Result<u64, Refusal>
+    requires { bits * highest ≤ 63 }
+    ensures { outcome_of result
+        ≡ refuse_when_at (not (eqb (leaf_fault (2 ^ bits) highest k (spot_of at) (leaf_of leaf)) 0))
+        (leaf_fault (2 ^ bits) highest k (spot_of at) (leaf_of leaf)) place
+        (accepted (span (2 ^ bits) highest leaf.level)) }
 {
-    if highest < level {
-        return 1;
+    if highest < leaf.level {
+        return Err(Refusal::LevelTooHigh(place));
     }
-    if position >> (bits * level) != 0 {
-        return 5;
+    if power::of_children(bits, leaf.level) <= leaf.position {
+        return Err(Refusal::NoPosition(place));
     }
-    if k <= root {
-        return 12;
+    if k <= leaf.root || leaf.root != at.root {
+        return Err(Refusal::NotCovered(place));
     }
-    if root != at.root {
-        return 12;
+    let cells = power::of_children(bits, highest - leaf.level);
+    if leaf.position * cells != at.cell {
+        return Err(Refusal::NotCovered(place));
     }
-    if position << (bits * (highest - level)) != at.cell {
-        return 12;
-    }
-    0
-}
-
-// Whether a leaf starts where the list has come to, with a position of its level: of so many elements, each of so many smallest cells.
-pub(crate) fn starts(at: Cursor, count: u64, cells: u64, root: u16, position: u64) -> bool
-    requires { count * cells < 2 ^ 64 }
-    ensures { result ≡ (ltb position count && (eqb root at.root && eqb (position * cells) at.cell)) }
-{
-    if count <= position {
-        return false;
-    }
-    if root != at.root {
-        return false;
-    }
-    position * cells == at.cell
+    Ok(cells)
 }

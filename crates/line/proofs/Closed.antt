@@ -10,10 +10,9 @@ use Rattle.tree.specs.Laws.{Sound}
 use Rattle.tree.proofs.Anchor.{grid_units, units_lt, units_child, side_suc}
 use Rattle.tree.proofs.Digits.{div_lt}
 use Rattle.tree.proofs.RoundTrip.{position_at_lem}
-use Rattle.tree.proofs.Descent.{of_first}
 use Rattle.line.specs.declared.Line.{Line}
 use Rattle.line.specs.Elements.{line_to}
-use Rattle.line.proofs.Laws.{line_path, lawful, sound_level, sound_grid}
+use Rattle.line.specs.Lawful.{line_path, lawful, sound_level, sound_grid}
 
 module _ (L : ℕ) where
   pub at_closed : (l p : ℕ) → l ≤ L → p < 2 ^ l → element_at (line_to L) l p ≡ record { x = p * side L l; level = l }
@@ -82,11 +81,3 @@ module _ (L : ℕ) where
   last_closed e l down shallow =
       let same : e.level + (l - e.level) ≡ l = omega arith in
       descend_last (l - e.level) e (omega arith) ∙ ap (λ (k : ℕ). record { x = e.x + (side L e.level - side L k); level = k }) same
-
-  -- at the highest level a position is the anchor itself
-  pub first_place : (e : Line) → Sound (line_to L) e → position (line_to L) (first (line_to L) e L) ≡ e.x
-  unfolding line_to
-  first_place e sound =
-      of_first (line_to L) (lawful L) e L sound (sound_level L e.level e.x sound) (omega arith)
-      ∙ ap (λ (k : ℕ). k * side L e.level) (position_closed e sound)
-      ∙ grid_units L e.level e.x (sound_grid L e.level e.x sound)

@@ -19,7 +19,7 @@ use Rattle.tree.proofs.Faces.{either_way, when_accepted, when_led, move_far, mov
 use Rattle.line.specs.declared.Line.{Line}
 use Rattle.line.specs.Elements.{line_to, fault, neighbour}
 use Rattle.line.specs.Points.{corner, face_points, face_across}
-use Rattle.line.proofs.Laws.{line_path, sound_level, sound_grid, grid_sound}
+use Rattle.line.specs.Lawful.{line_path, sound_level, sound_grid, grid_sound}
 
 -- ---- the lines from x and from y, of length h, meet in face i of the first
 module _ (x y h : ℕ) where

@@ -6,16 +6,13 @@
 --   CHILDREN, FACES, CORNERS   "children 2 ..; faces 2 ..; corners 2"
 --   line_to L     lines as a shape, highest level L
 --   line          "highest level 21 for all three"
---   line_of       the outcome that a LineAnswer stands for
 --
 -- Not here: several in lent columns (`Columns.antt`). Assumes nothing.
 use Rattle.std.specs.Prelude.{◌&&◌, ℕ, suc, ◌+◌, ◌-◌, ◌*◌, ltb, eqb}
-use Rattle.paper.specs.Outcome.{Outcome, accepted, refused, refuse_when, fault_when}
+use Rattle.paper.specs.Outcome.{Outcome, accepted, refuse_when, fault_when}
 use Rattle.tree.specs.Shape.{Shape}
 use Rattle.tree.specs.Anchors.{HIGHEST, side, off_grid, rounded, bit_at, moved, off_edge}
 use Rattle.line.specs.declared.Line.{Line}
-use Rattle.line.specs.declared.LineAnswer.{LineAnswer}
-use Rattle.line.specs.declared.LineAnswer.TheVariants.{Is, Refused}
 
 abbrev pub CHILDREN : ℕ
 CHILDREN = 2
@@ -64,7 +61,3 @@ module _ (L : ℕ) where
 
 abbrev pub line : Shape Line
 line = line_to HIGHEST
-
-abbrev pub line_of : LineAnswer → Outcome Line
-line_of (Is e) = accepted e
-line_of (Refused number place) = refused number place

@@ -33,14 +33,14 @@ module _ (bs : List ℕ) (i v : ℕ) where
       → number_at bs i ≡ accepted (found v (i + 2))
   read_two second low high more below =
       let whole : byte_at bs i - 128 + 128 * byte_at bs (i + 1) ≡ v = omega arith in
-      two_bytes bs i (omega arith) (omega arith) second (λ none. omega arith) (omega arith)
+      two_bytes bs i (omega arith) second (λ none. omega arith) (omega arith)
       ∙ ap (λ (k : ℕ). accepted (found k (i + 2))) whole
 
   read_three : i + 2 < length bs → byte_at bs i ≡ v % 128 + 128 → byte_at bs (i + 1) ≡ v / 128 % 128 + 128 → byte_at bs (i + 2) ≡ v / 16384
       → 16384 ≤ v → v ≤ highest → number_at bs i ≡ accepted (found v (i + 3))
   read_three third low middle high still most =
       let whole : byte_at bs i - 128 + 128 * (byte_at bs (i + 1) - 128) + 16384 * byte_at bs (i + 2) ≡ v = omega (arith, joined v (v / 128) refl) in
-      three_bytes bs i (omega arith) (omega arith) (omega arith) (λ none. omega arith) (omega arith) third (λ none. omega arith) (omega arith)
+      three_bytes bs i (omega arith) (omega arith) third (λ none. omega arith) (omega arith)
       ∙ ap (λ (k : ℕ). accepted (found k (i + 3))) whole
 
 module _ (before after : List ℕ) (v : ℕ) (most : v ≤ highest) where

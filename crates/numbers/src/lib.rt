@@ -2,52 +2,66 @@
 // most."
 #![tactic(auto)]
 
-ghost use Rattle.std.specs.Prelude.{◌≡◌, length};
-ghost use Rattle.numbers.specs.Numbers.{bytes_of, number_at};
+ghost use Rattle.std.specs.Prelude.{◌≡◌, leb, length};
+ghost use Rattle.paper.specs.Outcome.{accepted, refuse_when_at};
+ghost use Rattle.paper.specs.Refusals.{outcome_of};
+ghost use Rattle.numbers.specs.Numbers.{bytes_of, byte_at, number_at};
 ghost use Rattle.numbers.specs.Answers.{found_of};
 
-// A number that was found: its value and the offset of what follows it, or the refusal's number and place.
+use paper::Refusal;
+
+// A number that was found: its value and the offset of what follows it.
 #[derive(Clone, Copy)]
-pub enum FoundNumber {
-    Is(u32, usize),
-    Refused(u8, u64),
+pub struct Found {
+    pub value: u32,
+    pub next: usize,
 }
 
 // The number whose first byte is at an offset. Refused: 19 where a byte is missing; 20 for a last byte 0 after an earlier one, and for a third
 // byte with the top bit.
-pub fn number_at(bytes: &[u8], at: usize) -> FoundNumber
+pub fn number_at(bytes: &[u8], at: usize) -> Result<Found, Refusal>
     ensures { found_of result ≡ number_at bytes.now at }
 {
-    if bytes.len() <= at {
-        return FoundNumber::Refused(19, at as u64);
-    }
-    let low = bytes[at] as u32;
+    let low = byte_at(bytes, at, at as u64)?;
     let second = at + 1;
     if low < 128 {
-        return FoundNumber::Is(low, second);
+        return Ok(Found {
+            value: low,
+            next: second,
+        });
     }
     let place = at as u64;
-    if bytes.len() <= second {
-        return FoundNumber::Refused(19, place);
-    }
-    let middle = bytes[second] as u32;
+    let middle = byte_at(bytes, second, place)?;
     if middle == 0 {
-        return FoundNumber::Refused(20, place);
+        return Err(Refusal::NotShortest(place));
     }
     if middle < 128 {
-        return FoundNumber::Is(low - 128 + 128 * middle, at + 2);
+        return Ok(Found {
+            value: low - 128 + 128 * middle,
+            next: at + 2,
+        });
     }
-    if bytes.len() <= at + 2 {
-        return FoundNumber::Refused(19, place);
-    }
-    let high = bytes[at + 2] as u32;
+    let high = byte_at(bytes, at + 2, place)?;
     if high == 0 {
-        return FoundNumber::Refused(20, place);
+        return Err(Refusal::NotShortest(place));
     }
     if 128 <= high {
-        return FoundNumber::Refused(20, place);
+        return Err(Refusal::NotShortest(place));
     }
-    FoundNumber::Is(low - 128 + 128 * (middle - 128) + 16384 * high, at + 3)
+    let value = low - 128 + 128 * (middle - 128) + 16384 * high;
+    Ok(Found {
+        value,
+        next: at + 3,
+    })
+}
+
+// A byte of a number, refused at the number's place.
+fn byte_at(bytes: &[u8], at: usize, place: u64) -> Result<u32, Refusal>
+    ensures { outcome_of result ≡ refuse_when_at (leb (length bytes.now) at) 19 place
+        (accepted (byte_at bytes.now at)) }
+{
+    let byte = bytes.get(at).ok_or(Refusal::EndsEarly(place))?;
+    Ok(u32::from(*byte))
 }
 
 // How many bytes a number has.

@@ -2,34 +2,15 @@
 // decide, and no output is longer than the buffer (`orders`, `specs/Laws.antt`).
 #![tactic(auto)]
 
-ghost use Rattle.std.specs.Io.{ReadsAtMost};
-
+use orders::input::read_full;
 use orders::{LONGEST_INPUT, LONGEST_OUTPUT};
-use paper::NumberAnswer;
-use std::io::{self, Read};
-
-// Reads until the line is full or the input ends, and returns how many bytes were read, at the front of the line.
-fn read_full<R: Read>(input: &mut R, line: &mut [u8]) -> io::Result<usize>
-    ensures { ReadsAtMost result line.new }
-{
-    let mut size = 0;
-    while size < line.len() {
-        let read = input.read(&mut line[size..])?;
-        if read == 0 {
-            break;
-        }
-        size += read;
-    }
-    Ok(size)
-}
+use std::io;
 
 fn main(rt: HostRuntime) -> io::Result<()> {
-    let mut line: [u8; LONGEST_INPUT] = [0; LONGEST_INPUT];
-    let mut text: [u8; LONGEST_OUTPUT] = [0; LONGEST_OUTPUT];
+    let mut line = [0u8; LONGEST_INPUT];
+    let mut text = [0u8; LONGEST_OUTPUT];
     let read = read_full(&mut rt.stdin(), &mut line)?;
-    match orders::answer(&line[..read], &mut text) {
-        NumberAnswer::Is(size) => rt.write_all(&text[..size as usize]),
-        // Never: the proof has to show that the call cannot refuse a buffer so long.
-        NumberAnswer::Refused(_, _) => unreachable!(),
-    }
+    // Never refused: the proof has to show that the buffer is long enough for every output.
+    let size = orders::answer(&line[..read], &mut text).unwrap();
+    rt.write_all(&text[..size as usize])
 }

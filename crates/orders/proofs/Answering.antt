@@ -7,8 +7,9 @@ use native.Mathlib.Omega.{arith}
 use lib.ListN.{length}
 use lib.Seq.{sets}
 use Rattle.paper.specs.Outcome.{Outcome}
-use Rattle.paper.specs.declared.NumberAnswer.{NumberAnswer}
-use Rattle.paper.specs.declared.NumberAnswer.TheVariants as number
+use Rattle.std.specs.declared.result.Result.{Result}
+use Rattle.std.specs.declared.result.Result.TheVariants.{Ok}
+use Rattle.paper.specs.declared.Refusal.{Refusal}
 use Rattle.forms.specs.declared.Form.{Form}
 use Rattle.forms.specs.Forms.{read}
 use Rattle.forms.proofs.Bounds.{form_orderly}
@@ -25,11 +26,11 @@ spelled_output s o is = spelled_printed o (λ f said. form_orderly s f (sym is �
 
 module _ (s m : List ℕ) (o : Outcome Form) (is : o ≡ read s) where
   -- it may not fit
-  pub answered : (r : NumberAnswer) (m' : List ℕ) → Prints (spelled o) r m m' → Answered r s m m'
+  pub answered : (r : Result ℕ Refusal) (m' : List ℕ) → Prints (spelled o) r m m' → Answered r s m m'
   answered r m' = subst (λ (t : List ℕ). Prints t r m m') (spelled_output s o is)
 
   -- it must
-  pub answered_all : (r : ℕ) (m' : List ℕ) → longest_output ≤ length m → Put (spelled o) 0 m m' r → Answered (number.Is r) s m m'
+  pub answered_all : (r : ℕ) (m' : List ℕ) → longest_output ≤ length m → Put (spelled o) 0 m m' r → Answered (Ok r) s m m'
   answered_all r m' room put =
       let whole : r ≡ length (output s) = put.end ∙ zero-add _ ∙ ap length (spelled_output s o is) in
       let few = printed_few (read s) (form_orderly s) in

@@ -8,7 +8,8 @@
 -- Assumes nothing.
 use Rattle.std.specs.Prelude.{List, ℕ}
 use Rattle.paper.specs.Outcome.{Outcome}
-use Rattle.paper.specs.declared.NumberAnswer.{NumberAnswer}
+use Rattle.std.specs.declared.result.Result.{Result}
+use Rattle.paper.specs.declared.Refusal.{Refusal}
 use Rattle.forms.specs.Forms.{read}
 use Rattle.text.specs.Text.{printed, printing, Prints}
 
@@ -18,5 +19,5 @@ output s = printed (read s)
 abbrev pub answer : List ℕ → ℕ → Outcome (List ℕ)
 answer s room = printing (output s) room
 
-abbrev pub Answered : NumberAnswer → List ℕ → List ℕ → List ℕ → Type 0
+abbrev pub Answered : Result ℕ Refusal → List ℕ → List ℕ → List ℕ → Type 0
 Answered r s m m' = Prints (output s) r m m'

@@ -3,7 +3,9 @@
 
 ghost use Rattle.orders.specs.Calls.{Answered};
 
-use paper::NumberAnswer;
+use paper::Refusal;
+
+pub mod input;
 
 // The first bytes of the input decide: no more need be read.
 pub const LONGEST_INPUT: usize = 71;
@@ -12,7 +14,7 @@ pub const LONGEST_INPUT: usize = 71;
 pub const LONGEST_OUTPUT: usize = 86212;
 
 // What the program prints on the input, at the front of the lent buffer, and how many bytes that is. Refused: 14, with the bytes needed.
-pub fn answer(input: &[u8], out: &mut [u8]) -> NumberAnswer
+pub fn answer(input: &[u8], out: &mut [u8]) -> Result<u64, Refusal>
     ensures { Answered result input.now out.old out.new }
 {
     let asked = forms::read(input);
@@ -20,5 +22,5 @@ pub fn answer(input: &[u8], out: &mut [u8]) -> NumberAnswer
     if out.len() < LONGEST_OUTPUT {
         return text::answer(asked, out);
     }
-    NumberAnswer::Is(text::print(asked, out) as u64)
+    Ok(text::print(asked, out) as u64)
 }

@@ -42,12 +42,6 @@ pub written_length : {A : Type 0} (xs l : List A) → length xs ≤ length l →
 written_length xs l room = length-append xs (drop (length xs) l) ∙ omega (arith, length-drop (length xs) l)
 
 module _ {A : Type 0} (f : ℕ → A) (l : List A) where
-  pub front_none : l ≡ written (rows f 0 0) l
-  front_none = refl
-
-  pub front_length : (k : ℕ) → k ≤ length l → length (written (rows f 0 k) l) ≡ length l
-  front_length k room = written_length (rows f 0 k) l (omega (arith, rows_length f 0 k))
-
   pub front_more : (i : ℕ) → i < length l → set (written (rows f 0 i) l) i (f i) ≡ written (rows f 0 (i + 1)) l
   front_more i inside =
       let long = rows_length f 0 i in
@@ -70,13 +64,6 @@ pub sets_append : (l : List ℕ) (i : ℕ) (xs ys : List ℕ) → sets (sets l i
 sets_append l i [] ys = ap (λ (k : ℕ). sets l k ys) (add-zero i)
 sets_append l i (x ∷ xs) ys =
     ap (λ (k : ℕ). sets (sets (set l i x) (suc i) xs) k ys) (add-suc i (length xs) ∙ sym (suc-add i (length xs))) ∙ sets_append (set l i x) (suc i) xs ys
-
--- one entry more
-pub run_more : (f : ℕ → ℕ) (l : List ℕ) (i k : ℕ) → set (sets l i (rows f 0 k)) (i + k) (f k) ≡ sets l i (rows f 0 (k + 1))
-run_more f l i k =
-    ap₂ (λ (j m : ℕ). set (sets l i (rows f 0 k)) (i + j) (f m)) (sym (rows_length f 0 k)) (sym (zero-add k))
-    ∙ sym (sets_snoc l i (rows f 0 k) (f (0 + k)))
-    ∙ ap (sets l i) (sym (ap (rows f 0) (add-one k) ∙ rows_snoc f 0 k))
 
 -- a run stored right after the front makes the front longer
 pub written_run : (xs ys l : List ℕ) → length xs + length ys ≤ length l → sets (written xs l) (length xs) ys ≡ written (xs ++ ys) l

@@ -3,5 +3,5 @@ pub mod Scan
 pub mod First
 pub mod Front
 pub mod Memory
-pub mod Faults
 pub mod Exactly
+pub mod Refusals

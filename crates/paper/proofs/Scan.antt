@@ -11,7 +11,7 @@ use lib.Dec.{eqb}
 use lib.ListN.{length, drop, get_or}
 use lib.Seq.{drop-cons}
 use borrow.Author.Tests.{eq-eqb, ne_eqb, eqb-true, not-false}
-use Rattle.paper.specs.Outcome.{Outcome, accepted, passed, refused, refuse_when_at, scan, rows}
+use Rattle.paper.specs.Outcome.{Outcome, accepted, passed, refused, refuse_when_at, fault_at, scan, rows}
 use Rattle.paper.proofs.Tests.{passed_by}
 
 -- ---- the rows of lent columns
@@ -68,6 +68,11 @@ carry true n p m q short long onward h =
     ap₂ refused number place
 carry false n p m q short long onward h = onward h
 
+-- one check that refuses does so whatever would follow
+pub failed : {B : Type 0} (number place m q : ℕ) (rest : Outcome B) → refused m q ≡ fault_at number place
+    → refused m q ≡ refuse_when_at (not (eqb number 0)) number place rest
+failed number place m q rest h = sym (carry (not (eqb number 0)) number place m q passed rest (λ e. never tt m q (sym e)) (sym h))
+
 -- an accepted scan passed, and so did what follows it
 pub scan_accepted : {A B : Type 0} (fault : A → ℕ) (i : ℕ) (es : List A) (rest : Outcome B) (a : B) → scan fault i es rest ≡ accepted a
     → (scan fault i es passed ≡ passed) × (rest ≡ accepted a)
@@ -76,6 +81,12 @@ scan_accepted fault i (e ∷ es) rest a h =
     let d = accepted_of (not (eqb (fault e) 0)) (fault e) i (scan fault (suc i) es rest) a h in
     let later = scan_accepted fault (suc i) es rest a d.1 in
     (passed_by _ (fault e) i (scan fault (suc i) es passed) d.0 ∙ later.0, later.1)
+
+-- one check that passed found no fault
+pub faultless : (number place : ℕ) → passed ≡ fault_at number place → number ≡ 0
+faultless number place h =
+    let d = accepted_by (not (eqb number 0)) number place passed (sym h) in
+    eqb-true number 0 (not-false (eqb number 0) d.0)
 
 -- a scan that passed: each is without fault
 pub scan_each : {A : Type 0} (fault : A → ℕ) (i : ℕ) (es : List A) (d : A) (j : ℕ) → scan fault i es passed ≡ passed → j < length es → fault (get_or es j d) ≡ 0
@@ -135,6 +146,9 @@ module _ {A : Type 0} (fault : A → ℕ) (entry : ℕ → A) where
 
     pub scan_found : (fault (entry i) ≡ 0 → ⊥) → scan fault i (rows entry i (m - i)) rest ≡ refused (fault (entry i)) i
     scan_found some = ap (λ (es : List A). scan fault i es rest) (rows_next entry m i inside) ∙ fault_taken (fault (entry i)) i _ some
+
+    pub scan_stops : (n p : ℕ) → refused n p ≡ fault_at (fault (entry i)) i → scan fault i (rows entry i (m - i)) rest ≡ refused n p
+    scan_stops n p h = ap (λ (es : List A). scan fault i es rest) (rows_next entry m i inside) ∙ sym (failed (fault (entry i)) i n p _ h)
 
   -- ---- the scan passed: every row is without fault
   pub scan_all : (i k j : ℕ) → scan fault i (rows entry i k) passed ≡ passed → j < k → fault (entry (i + j)) ≡ 0

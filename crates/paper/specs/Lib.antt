@@ -1,4 +1,4 @@
 pub mod Outcome
-pub mod Readings
+pub mod Refusals
 pub mod Memory
 pub mod Exactly

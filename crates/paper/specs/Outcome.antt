@@ -9,6 +9,7 @@
 --   scan f i es o          "checked in turn, place = index": refused at the first of es whose fault is not 0, else o
 --   passed                 accepted, with no value
 --   checks f es            the checks alone, with nothing after them
+--   fault_at k i           one check alone, at the place i: refused k, or passed where k is 0
 --   rows e i k             the k entries e i, e (i + 1), ..
 --   Order                  less, same or greater
 --
@@ -47,6 +48,9 @@ passed = accepted tt
 
 abbrev pub checks : {A : Type 0} → (A → ℕ) → List A → Outcome (Unit {0})
 checks fault es = scan fault 0 es passed
+
+abbrev pub fault_at : ℕ → ℕ → Outcome (Unit {0})
+fault_at number place = refuse_when_at (not (eqb number 0)) number place passed
 
 abbrev pub rows : {A : Type 0} → (ℕ → A) → ℕ → ℕ → List A
 rows entry i zero = []

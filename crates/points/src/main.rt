@@ -2,19 +2,17 @@
 // The coordinates are multiples of an eighth, so that three decimals are exact.
 #![tactic(auto)]
 
-use corners::{Corner, PointAnswer, Root};
+use corners::{Corner, Point, Root};
 use std::io;
 
 fn say_size(rt: &impl Print, x: f64) -> io::Result<()> {
     let eighths = x * 8.0;
-    if eighths > -1.0 {
-        if eighths < 18446744073709551616.0 {
-            let n = std::num::truncating_f64_to_u64(eighths);
-            print!(rt; "{}", n / 8)?;
-            let rest = n % 8;
-            if 0 < rest {
-                print!(rt; ".{}", rest * 125)?;
-            }
+    if eighths > -1.0 && eighths < 18446744073709551616.0 {
+        let n = std::num::truncating_f64_to_u64(eighths);
+        print!(rt; "{}", n / 8)?;
+        let rest = n % 8;
+        if 0 < rest {
+            print!(rt; ".{}", rest * 125)?;
         }
     }
     Ok(())
@@ -33,22 +31,20 @@ fn say_number(rt: &impl Print, x: f64) -> io::Result<()> {
     say_size(rt, x)
 }
 
-fn say(rt: &impl Print, a: PointAnswer) -> io::Result<()> {
-    match a {
-        PointAnswer::Is(p) => {
-            say_number(rt, p.x)?;
-            say_number(rt, p.y)?;
-            say_number(rt, p.z)?;
-            println!(rt;)
-        }
-        PointAnswer::Refused(number, place) => println!(rt; " refused {number} place {place}"),
-    }
+fn say_point(rt: &impl Print, p: Point) -> io::Result<()> {
+    say_number(rt, p.x)?;
+    say_number(rt, p.y)?;
+    say_number(rt, p.z)?;
+    println!(rt;)
 }
 
 // The question, then the answer.
 fn show(rt: &impl Print, level: u8, position: u64, corner: u8, root: Root) -> io::Result<()> {
     print!(rt; "level {level} position {position} corner {corner}:")?;
-    say(rt, corners::corner_point(level, position, corner, root))
+    match corners::corner_point(level, position, corner, root) {
+        Ok(p) => say_point(rt, p),
+        Err(refusal) => println!(rt; " {refusal}"),
+    }
 }
 
 fn at(x: i64, y: i64, z: i64) -> Corner {

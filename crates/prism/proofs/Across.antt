@@ -2,7 +2,7 @@
 -- coordinate that stays neither leaves the edge nor moves. Assumes nothing.
 use mathlib.Core.Path.{◌≡◌, refl, ap, ap₂, ◌∙◌, sym, subst}
 use mathlib.Core.Logic.{◌⊎◌, inl, inr, ⊎_elim}
-use mathlib.Core.Bool.{Bool, true, false, not, cond, ◌||◌}
+use mathlib.Core.Bool.{Bool, true, false, not, ◌||◌}
 use Prim.Native.Nat.{ℕ, ◌+◌, ◌-◌, ◌*◌, ◌≤◌, ◌<◌}
 use native.Mathlib.Decide.{dec_lt}
 use native.Mathlib.Omega.{arith}
@@ -10,19 +10,19 @@ use borrow.Author.Tests.{lt-ltb, le-ltb}
 use Rattle.paper.specs.Outcome.{Outcome, accepted, refused, mapped, refuse_when}
 use Rattle.tree.specs.Anchors.{side, moved, off_edge}
 use Rattle.tree.proofs.Anchor.{grid_lt}
-use Rattle.tree.proofs.Move.{moved_gone, moved_stays, moved_is, still, still_stays}
+use Rattle.tree.proofs.Move.{still, still_stays}
 use Rattle.tree.proofs.Cases.{below_2, below_3}
 use Rattle.line.specs.declared.Line.{Line}
 use Rattle.triangle.specs.declared.Triangle.{Triangle}
 use Rattle.rows.specs.Rows.{face_row}
 use Rattle.triangle.specs.Elements.{inside_root}
-use Rattle.triangle.proofs.Laws.{Known}
+use Rattle.triangle.specs.Lawful.{Known}
 use Rattle.line.specs.Elements as line
 use Rattle.rows.specs.declared.PrismStep.{PrismStep}
 use Rattle.prism.specs.declared.Prism.{Prism}
 use Rattle.rows.specs.Rows.{prism_step, prism_face_row}
 use Rattle.prism.specs.Elements.{fault, neighbour, plan, upright, product}
-use Rattle.prism.proofs.Laws.{grids}
+use Rattle.prism.specs.Lawful.{grids}
 
 -- ---- the rows
 side_plan : (t i : ℕ) → t < 2 → i < 3 → prism_face_row t i ≡ prism_step (face_row t i).x (face_row t i).y 1 (face_row t i).kind
@@ -118,48 +118,33 @@ module _ (e : Prism) (sound : fault 21 e ≡ 0) where
           let again : 3 + (i - 3) ≡ i = omega arith in
           subst (λ (n : ℕ). neighbour 21 e n ≡ across_by e (prism_face_row e.kind n)) again (by_upright (i - 3) (omega arith))
 
--- ---- the code's way out. s is the row; w is the side, x, y and z the moved coordinates, as the code has them
-module _ (e : Prism) (s : PrismStep) (w x y z : ℕ) (sized : w ≡ side 21 e.level)
-    (at_x : x ≡ cond (off_edge 21 w s.x e.x) 4294967295 (moved w s.x e.x))
-    (at_y : y ≡ cond (off_edge 21 w s.y e.y) 4294967295 (moved w s.y e.y))
-    (at_z : z ≡ cond (off_edge 21 w s.z e.z) 4294967295 (moved w s.z e.z)) where
+-- ---- the code's ways out. s is the row; w is the side, as the code has it
+module _ (e : Prism) (s : PrismStep) (w : ℕ) (sized : w ≡ side 21 e.level) where
   across_is : refuse_when (out e s w) 10 (accepted (there e s w)) ≡ across_by e s
   across_is = ap (λ (n : ℕ). refuse_when (out e s n) 10 (accepted (there e s n))) sized
 
-  pub gone_x : x ≡ 4294967295 → refused 10 0 ≡ across_by e s
-  gone_x gone = sym (simp (moved_gone w s.x e.x x at_x gone)) ∙ across_is
+  pub gone_x : off_edge 21 w s.x e.x ≡ true → refused 10 0 ≡ across_by e s
+  gone_x gone = sym (simp gone) ∙ across_is
 
-  module _ (here_x : x ≡ 4294967295 → ⊥) where
-    stays_x : off_edge 21 w s.x e.x ≡ false
-    stays_x = moved_stays w s.x e.x x at_x here_x
+  -- x, y and z are the moved coordinates, as the code has them
+  module _ (x : ℕ) (at_x : (off_edge 21 w s.x e.x ≡ false) × (x ≡ moved w s.x e.x)) where
+    pub gone_y : off_edge 21 w s.y e.y ≡ true → refused 10 0 ≡ across_by e s
+    gone_y gone = sym (simp (at_x.0, gone)) ∙ across_is
 
-    pub gone_y : y ≡ 4294967295 → refused 10 0 ≡ across_by e s
-    gone_y gone = sym (simp (stays_x, moved_gone w s.y e.y y at_y gone)) ∙ across_is
+    module _ (y : ℕ) (at_y : (off_edge 21 w s.y e.y ≡ false) × (y ≡ moved w s.y e.y)) where
+      pub gone_z : off_edge 21 w s.z e.z ≡ true → refused 10 0 ≡ across_by e s
+      gone_z gone = sym (simp (at_x.0, at_y.0, gone)) ∙ across_is
 
-    module _ (here_y : y ≡ 4294967295 → ⊥) where
-      stays_y : off_edge 21 w s.y e.y ≡ false
-      stays_y = moved_stays w s.y e.y y at_y here_y
-
-      pub gone_z : z ≡ 4294967295 → refused 10 0 ≡ across_by e s
-      gone_z gone = sym (simp (stays_x, stays_y, moved_gone w s.z e.z z at_z gone)) ∙ across_is
-
-      module _ (here_z : z ≡ 4294967295 → ⊥) where
-        stays_z : off_edge 21 w s.z e.z ≡ false
-        stays_z = moved_stays w s.z e.z z at_z here_z
-
+      module _ (z : ℕ) (at_z : (off_edge 21 w s.z e.z ≡ false) × (z ≡ moved w s.z e.z)) where
         -- the test of the root, at the moved coordinates
         placed : (t : Bool) → not (inside_root s.kind x y) ≡ t → not (inside_root s.kind (moved w s.x e.x) (moved w s.y e.y)) ≡ t
-        placed t test =
-            ap₂ (λ (a b : ℕ). not (inside_root s.kind a b)) (sym (moved_is w s.x e.x x at_x here_x)) (sym (moved_is w s.y e.y y at_y here_y)) ∙ test
+        placed t test = ap₂ (λ (a b : ℕ). not (inside_root s.kind a b)) (sym at_x.1) (sym at_y.1) ∙ test
 
         pub beyond_root : not (inside_root s.kind x y) ≡ true → refused 10 0 ≡ across_by e s
-        beyond_root outside = sym (simp (stays_x, stays_y, stays_z, placed true outside)) ∙ across_is
+        beyond_root outside = sym (simp (at_x.0, at_y.0, at_z.0, placed true outside)) ∙ across_is
 
         pub within_root : not (inside_root s.kind x y) ≡ false → accepted (record { x = x; y = y; z = z; level = e.level; kind = s.kind }) ≡ across_by e s
         within_root inside =
-            let in_x = moved_is w s.x e.x x at_x here_x in
-            let in_y = moved_is w s.y e.y y at_y here_y in
-            let in_z = moved_is w s.z e.z z at_z here_z in
-            ap accepted (λ j. record { x = in_x j; y = in_y j; z = in_z j; level = e.level; kind = s.kind })
-            ∙ sym (simp (stays_x, stays_y, stays_z, placed false inside))
+            ap accepted (λ j. record { x = at_x.1 j; y = at_y.1 j; z = at_z.1 j; level = e.level; kind = s.kind })
+            ∙ sym (simp (at_x.0, at_y.0, at_z.0, placed false inside))
             ∙ across_is

@@ -12,7 +12,7 @@ use Rattle.tree.proofs.SameMembers.{alike}
 use Rattle.tree.proofs.Faces.{mapped_led}
 use Rattle.line.specs.declared.Line.{Line}
 use Rattle.line.specs.Elements.{line_to}
-use Rattle.line.proofs.Laws.{line_path}
+use Rattle.line.specs.Lawful.{line_path}
 use Rattle.line.proofs.Faces.{line_faces}
 use Rattle.line.proofs.Faces as line_same
 use Rattle.triangle.specs.declared.Triangle.{Triangle}
@@ -23,7 +23,7 @@ use Rattle.triangle.specs.Points as triangle_points
 use Rattle.prism.specs.declared.Prism.{Prism}
 use Rattle.prism.specs.Elements.{prism_to, fault, neighbour, plan, upright, product}
 use Rattle.prism.specs.Points.{Corner, lifted, face_points, face_across}
-use Rattle.prism.proofs.Laws.{grids, triangle_sound, line_sound, joined_sound}
+use Rattle.prism.specs.Lawful.{grids, triangle_sound, line_sound, joined_sound}
 use Rattle.prism.proofs.SamePoints.{same_points}
 use Rattle.prism.proofs.Around.{plans, height}
 

@@ -11,7 +11,7 @@ use Rattle.tree.specs.Laws.{Across}
 use Rattle.tree.proofs.SameMembers.{alike}
 use Rattle.tree.proofs.Faces.{mapped_led}
 use Rattle.line.specs.declared.Line.{Line}
-use Rattle.line.proofs.Laws.{line_path}
+use Rattle.line.specs.Lawful.{line_path}
 use Rattle.triangle.specs.declared.Triangle.{Triangle}
 use Rattle.triangle.specs.Elements.{triangle_to}
 use Rattle.triangle.specs.Points.{Point, point}
@@ -24,7 +24,7 @@ use Rattle.triangle.specs.Points as triangle_points
 use Rattle.prism.specs.declared.Prism.{Prism}
 use Rattle.prism.specs.Elements.{prism_to, fault, neighbour, plan, upright, product}
 use Rattle.prism.specs.Points.{Corner, lifted, face_points, face_across}
-use Rattle.prism.proofs.Laws.{triangle_sound, line_sound, joined_sound}
+use Rattle.prism.specs.Lawful.{triangle_sound, line_sound, joined_sound}
 use Rattle.prism.proofs.SamePoints.{same_points}
 
 -- ---- the corner points

@@ -24,7 +24,7 @@ use Rattle.triangle.specs.Points as triangle_points
 use Rattle.prism.specs.declared.Prism.{Prism}
 use Rattle.prism.specs.Elements.{prism_to, fault, neighbour, plan, upright, product}
 use Rattle.prism.specs.Points.{face_points, face_across}
-use Rattle.prism.proofs.Laws.{triangle_sound, line_sound}
+use Rattle.prism.specs.Lawful.{triangle_sound, line_sound}
 use Rattle.prism.proofs.SamePoints.{same_points}
 use Rattle.prism.proofs.Around.{around, neighbour_around, around_across, around_back, around_only}
 use Rattle.prism.proofs.Along.{along, neighbour_along, along_across, along_back, along_only}

@@ -13,7 +13,7 @@ use Rattle.tree.specs.Anchors.{side, off_grid}
 use Rattle.tree.specs.Laws.{Sound}
 use Rattle.tree.proofs.Anchor.{grid_lt, end_inside}
 use Rattle.tree.proofs.Cases.{below_3}
-use Rattle.line.proofs.Laws.{grid_sound}
+use Rattle.line.specs.Lawful.{grid_sound}
 use Rattle.triangle.specs.Elements.{triangle_to}
 use Rattle.triangle.specs.Points as triangle
 use Rattle.triangle.proofs.Inside.{fourth, fourth_is, NoneOr4, three_pass, outside, passed_grid, multiple_grid, grid_multiple}
@@ -21,7 +21,7 @@ use Rattle.triangle.proofs.Inside as triangle_inside
 use Rattle.prism.specs.declared.Prism.{Prism}
 use Rattle.prism.specs.Elements.{prism_to, fault, plan}
 use Rattle.prism.specs.Points.{corner, InRoot, OnGrid, Refusal4}
-use Rattle.prism.proofs.Laws.{triangle_sound, joined_sound}
+use Rattle.prism.specs.Lawful.{triangle_sound, joined_sound}
 
 module _ (L : ℕ) where
   -- none or one side further

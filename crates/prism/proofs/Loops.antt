@@ -10,7 +10,7 @@ use Rattle.tree.specs.Anchors.{side, rounded}
 use Rattle.tree.specs.Words.{element_at, position_at, position}
 use Rattle.tree.proofs.Anchor.{side_edge, units_child, units_rounded, units_bit, grid_units}
 use Rattle.tree.proofs.Walk.{reached_start, reached_step, reached_end, climbed_start, climbed_step, climbed_end, sum_below}
-use Rattle.line.proofs.Laws.{line_path}
+use Rattle.line.specs.Lawful.{line_path}
 use Rattle.rows.specs.declared.Step.{Step}
 use Rattle.rows.specs.declared.Slot.{Slot}
 use Rattle.rows.specs.Rows.{step, child_row, slot_of, parent_kind, number_of}
@@ -18,7 +18,7 @@ use Rattle.rows.proofs.Tables.{child_row_small, parent_kind_lt, number_of_lt}
 use Rattle.triangle.proofs.Units as plan
 use Rattle.prism.specs.declared.Prism.{Prism}
 use Rattle.prism.specs.Elements.{prism, prism_to, product}
-use Rattle.prism.proofs.Laws.{prism_path, grids}
+use Rattle.prism.specs.Lawful.{prism_path, grids}
 
 binary : prism.children ≡ 2 ^ 3
 unfolding prism_to

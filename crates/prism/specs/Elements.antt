@@ -9,11 +9,10 @@
 --   plan, upright        the two that a prism is the product of; product puts them together again
 --   prism_to L           prisms as a shape, highest level L
 --   prism                "highest level 21 for all three"
---   prism_of             the outcome that a PrismAnswer stands for
 --
 -- Not here: several in lent columns (`Columns.antt`). Assumes nothing.
 use Rattle.std.specs.Prelude.{not, cond, ◌&&◌, ◌||◌, ℕ, ◌+◌, ◌-◌, ◌*◌, ◌/◌, ◌%◌, ltb, eqb}
-use Rattle.paper.specs.Outcome.{Outcome, accepted, refused, mapped, fault_when}
+use Rattle.paper.specs.Outcome.{Outcome, mapped, fault_when}
 use Rattle.tree.specs.Shape.{Shape}
 use Rattle.tree.specs.Anchors.{HIGHEST, off_grid}
 use Rattle.line.specs.declared.Line.{Line}
@@ -21,8 +20,6 @@ use Rattle.triangle.specs.declared.Triangle.{Triangle}
 use Rattle.line.specs.Elements as line
 use Rattle.triangle.specs.Elements as triangle
 use Rattle.prism.specs.declared.Prism.{Prism}
-use Rattle.prism.specs.declared.PrismAnswer.{PrismAnswer}
-use Rattle.prism.specs.declared.PrismAnswer.TheVariants.{Is, Refused}
 
 abbrev pub CHILDREN : ℕ
 CHILDREN = 8
@@ -86,7 +83,3 @@ module _ (L : ℕ) where
 
 abbrev pub prism : Shape Prism
 prism = prism_to HIGHEST
-
-abbrev pub prism_of : PrismAnswer → Outcome Prism
-prism_of (Is e) = accepted e
-prism_of (Refused number place) = refused number place

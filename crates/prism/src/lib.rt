@@ -1,21 +1,19 @@
-// Prisms: a triangle times a line. Each contract is one of the ten calls of `tree`, at this shape; `specs/Elements.antt`
-// says what a prism is.
-#![tactic(auto)]
+// Prisms: a triangle times a line. The ten calls are those of `tree::element`, at this shape, and what they do has the triangle's part and
+// the line's, which is z, in one; `specs/Elements.antt` says what a prism is.
+#![tactic(auto, unfolding(crate::specs::Elements::prism_to))]
 
-ghost use Rattle.std.specs.Prelude.{◌≡◌, ◌<◌};
-ghost use Rattle.paper.specs.Readings.{value_of, truth_of, comparison_of};
-ghost use Rattle.tree.specs.Calls;
-ghost use Rattle.prism.specs.Elements.{prism, prism_of};
-ghost use Rattle.prism.specs.Columns.{columns, family};
+ghost use Rattle.std.specs.Prelude.{length};
+ghost use Rattle.prism.specs.Elements.{prism};
+ghost use Rattle.prism.specs.Columns as lent;
+ghost use Rattle.prism.specs.Lawful.{lawful_prism, same_prism, states_prism};
 
-use paper::{CompareAnswer, NumberAnswer, TruthAnswer};
+use paper::Refusal;
 use tree::HIGHEST;
-
-mod family;
-mod work;
+use tree::columns::Columns;
+use tree::element::Element;
 
 #[repr(C)]
-#[derive(Clone, Copy)]
+#[derive(Clone, Copy, Debug, PartialEq, Eq)]
 pub struct Prism {
     pub x: u32,
     pub y: u32,
@@ -25,181 +23,208 @@ pub struct Prism {
     pub kind: u8,
 }
 
-// A prism, or the refusal's number and place.
-#[derive(Clone, Copy)]
-pub enum PrismAnswer {
-    Is(Prism),
-    Refused(u8, u64),
-}
+impl Element for Prism {
+    ghost shape = { prism };
 
-impl Prism {
-    pub const CHILDREN: u8 = 8;
+    const BITS: u8 = 3;
 
-    pub const FACES: u8 = 5;
+    const CHILDREN: u8 = 8;
 
-    pub const CORNERS: u8 = 6;
+    const FACES: u8 = 5;
 
-    // The element of a level at a position. Refused: 1, 5.
-    pub fn at(level: u8, position: u64) -> PrismAnswer
-        ensures { prism_of result ≡ Calls.at prism level position }
-    {
-        if HIGHEST < level {
-            return PrismAnswer::Refused(1, 0);
-        }
-        if 1u64 << (3 * level) <= position {
-            return PrismAnswer::Refused(5, 0);
-        }
-        PrismAnswer::Is(work::placed(level, position))
+    const CORNERS: u8 = 6;
+
+    ghost BITS = { 3 };
+
+    ghost CHILDREN = { 8 };
+
+    ghost FACES = { 5 };
+
+    ghost CORNERS = { 6 };
+
+    ghost lawful = { lawful_prism };
+
+    ghost states = { states_prism };
+
+    ghost same = { same_prism };
+
+    fn level(self) -> u8 {
+        self.level
     }
 
-    // The position of an element. Refused: 1, 2, 3, 4.
-    pub fn position(self) -> NumberAnswer
-        ensures { value_of result ≡ Calls.position prism self }
-    {
-        let fault = self.fault();
-        if fault != 0 {
-            return NumberAnswer::Refused(fault, 0);
+    // 1, 2, 3, 4
+    fn check(self, place: u64) -> Result<(), Refusal> {
+        if HIGHEST < self.level {
+            return Err(Refusal::LevelTooHigh(place));
         }
-        NumberAnswer::Is(self.rank())
+        if tree::off_grid(self.level, self.x) {
+            return Err(Refusal::OffGrid(place));
+        }
+        if tree::off_grid(self.level, self.y) {
+            return Err(Refusal::OffGrid(place));
+        }
+        if tree::off_grid(self.level, self.z) {
+            return Err(Refusal::OffGrid(place));
+        }
+        if 1 < self.kind {
+            return Err(Refusal::NoType(place));
+        }
+        if triangle::outside(self.kind, self.x, self.y) {
+            return Err(Refusal::OutsideRoot(place));
+        }
+        Ok(())
     }
 
-    // The element that this one is a child of. Refused: 1, 2, 3, 4, 6.
-    pub fn parent(self) -> PrismAnswer
-        ensures { prism_of result ≡ Calls.parent prism self }
-    {
-        let fault = self.fault();
-        if fault != 0 {
-            return PrismAnswer::Refused(fault, 0);
+    // Down from the root, one digit a level, in units of the side.
+    fn placed(level: u8, position: u64) -> Prism {
+        let mut x = 0u32;
+        let mut y = 0u32;
+        let mut z = 0u32;
+        let mut kind = 0u8;
+        for left in (0..level).rev() {
+            let d = ((position >> (3 * left)) % 8) as u8;
+            let s = rows::child_row(kind, d % 4);
+            x = 2 * x + s.x as u32;
+            y = 2 * y + s.y as u32;
+            z = 2 * z + (d / 4) as u32;
+            kind = s.kind;
         }
-        if self.level == 0 {
-            return PrismAnswer::Refused(6, 0);
+        let s = HIGHEST - level;
+        Prism {
+            x: x << s,
+            y: y << s,
+            z: z << s,
+            level,
+            kind,
         }
-        PrismAnswer::Is(self.up())
     }
 
-    // A child by its number. Refused: 1, 2, 3, 4, 7, 8.
-    pub fn child(self, number: u8) -> PrismAnswer
-        ensures { prism_of result ≡ Calls.child prism self number }
-    {
-        let fault = self.fault();
-        if fault != 0 {
-            return PrismAnswer::Refused(fault, 0);
-        }
-        if HIGHEST <= self.level {
-            return PrismAnswer::Refused(7, 0);
-        }
-        if Self::CHILDREN <= number {
-            return PrismAnswer::Refused(8, 0);
-        }
-        PrismAnswer::Is(self.down(number))
-    }
-
-    // The next element of the level. Refused: 1, 2, 3, 4, 9.
-    pub fn successor(self) -> PrismAnswer
-        ensures { prism_of result ≡ Calls.successor prism self }
-    {
-        let fault = self.fault();
-        if fault != 0 {
-            return PrismAnswer::Refused(fault, 0);
-        }
-        let next = self.rank() + 1;
+    // Up the ancestors, one digit a level, the lowest first: in units of its side an anchor's last bit is the step's.
+    fn rank(self) -> u64 {
         let level = self.level;
-        if next == 1u64 << (3 * level) {
-            return PrismAnswer::Refused(9, 0);
+        let s = HIGHEST - level;
+        let mut x = self.x >> s;
+        let mut y = self.y >> s;
+        let mut z = self.z >> s;
+        let mut kind = self.kind;
+        let mut sum = 0u64;
+        for i in 0..level {
+            let p = rows::slot_of(x, y, kind);
+            sum += (4 * (z % 2) as u64 + p.number as u64) << (3 * i);
+            x /= 2;
+            y /= 2;
+            z /= 2;
+            kind = p.kind;
         }
-        PrismAnswer::Is(work::placed(level, next))
+        sum
     }
 
-    // The first descendant at a level. Refused: 1, 2, 3, 4, then 1, 6 for the level.
-    pub fn first_descendant(self, level: u8) -> PrismAnswer
-        ensures { prism_of result ≡ Calls.first prism self level }
-    {
-        let fault = self.fault();
-        if fault != 0 {
-            return PrismAnswer::Refused(fault, 0);
+    fn up(self) -> Prism {
+        let level = self.level - 1;
+        let slot = rows::slot_of(
+            tree::bit(self.level, self.x),
+            tree::bit(self.level, self.y),
+            self.kind,
+        );
+        Prism {
+            x: tree::rounded(level, self.x),
+            y: tree::rounded(level, self.y),
+            z: tree::rounded(level, self.z),
+            level,
+            kind: slot.kind,
         }
-        if HIGHEST < level {
-            return PrismAnswer::Refused(1, 0);
+    }
+
+    // The row is that of the triangle number, which is the child's number modulo 4.
+    fn down(self, number: u8) -> Prism {
+        let level = self.level + 1;
+        let h = tree::side(level);
+        let s = rows::child_row(self.kind, number);
+        Prism {
+            x: self.x + (s.x as u32) * h,
+            y: self.y + (s.y as u32) * h,
+            z: self.z + (number / 4) as u32 * h,
+            level,
+            kind: s.kind,
         }
-        if level < self.level {
-            return PrismAnswer::Refused(6, 0);
-        }
-        PrismAnswer::Is(Prism {
-            x: self.x,
-            y: self.y,
-            z: self.z,
+    }
+
+    fn top(self, level: u8) -> Prism {
+        Prism { level, ..self }
+    }
+
+    fn bottom(self, level: u8) -> Prism {
+        let d = tree::side(self.level) - tree::side(level);
+        Prism {
+            x: self.x + d,
+            y: self.y + d,
+            z: self.z + d,
             level,
             kind: self.kind,
+        }
+    }
+
+    fn across(self, face: u8) -> Result<Prism, Refusal> {
+        let h = tree::side(self.level);
+        let s = rows::prism_face_row(self.kind, face);
+        let Some(x) = tree::moved(self.x, s.x, h) else {
+            return Err(Refusal::NoNeighbour(0));
+        };
+        let Some(y) = tree::moved(self.y, s.y, h) else {
+            return Err(Refusal::NoNeighbour(0));
+        };
+        let Some(z) = tree::moved(self.z, s.z, h) else {
+            return Err(Refusal::NoNeighbour(0));
+        };
+        let kind = s.kind;
+        if triangle::outside(kind, x, y) {
+            return Err(Refusal::NoNeighbour(0));
+        }
+        Ok(Prism {
+            x,
+            y,
+            z,
+            level: self.level,
+            kind,
         })
     }
+}
 
-    // The last descendant at a level. Refused: 1, 2, 3, 4, then 1, 6 for the level.
-    pub fn last_descendant(self, level: u8) -> PrismAnswer
-        ensures { prism_of result ≡ Calls.last prism self level }
-    {
-        let fault = self.fault();
-        if fault != 0 {
-            return PrismAnswer::Refused(fault, 0);
-        }
-        if HIGHEST < level {
-            return PrismAnswer::Refused(1, 0);
-        }
-        if level < self.level {
-            return PrismAnswer::Refused(6, 0);
-        }
-        PrismAnswer::Is(self.bottom(level))
+// Several prisms in lent columns.
+#[derive(Clone, Copy)]
+pub struct Prisms<'a> {
+    pub xs: &'a [u32],
+    pub ys: &'a [u32],
+    pub zs: &'a [u32],
+    pub levels: &'a [u8],
+    pub kinds: &'a [u8],
+}
+
+impl Columns for Prisms<'_> {
+    type Row = Prism;
+
+    ghost equal = { λ c. lent.equal_columns (lent.columns c.xs.now c.ys.now c.zs.now c.levels.now c.kinds.now) };
+
+    ghost count = { λ c. length c.xs.now };
+
+    ghost entry = { λ c i. lent.element (lent.columns c.xs.now c.ys.now c.zs.now c.levels.now c.kinds.now) i };
+
+    fn are_equal(self) -> bool {
+        let n = self.xs.len();
+        n == self.ys.len() && n == self.zs.len() && n == self.levels.len() && n == self.kinds.len()
     }
 
-    // The element across a face. Refused: 1, 2, 3, 4, 8, 10.
-    pub fn neighbour(self, face: u8) -> PrismAnswer
-        ensures { prism_of result ≡ Calls.neighbour prism self face }
-    {
-        let fault = self.fault();
-        if fault != 0 {
-            return PrismAnswer::Refused(fault, 0);
-        }
-        if Self::FACES <= face {
-            return PrismAnswer::Refused(8, 0);
-        }
-        self.across(face)
+    fn len(self) -> usize {
+        self.xs.len()
     }
 
-    // The order of two elements. Refused: 1, 2, 3, 4, at place 0 or 1.
-    pub fn compare(self, other: Prism) -> CompareAnswer
-        ensures { comparison_of result ≡ Calls.order prism self other }
-    {
-        let fault = self.fault();
-        if fault != 0 {
-            return CompareAnswer::Refused(fault, 0);
+    fn row(self, i: usize) -> Prism {
+        Prism {
+            x: self.xs[i],
+            y: self.ys[i],
+            z: self.zs[i],
+            level: self.levels[i],
+            kind: self.kinds[i],
         }
-        let second = other.fault();
-        if second != 0 {
-            return CompareAnswer::Refused(second, 1);
-        }
-        tree::order(self.start(), self.level, other.start(), other.level)
-    }
-
-    // Whether the elements of the columns are all children of one parent, in order. Refused: 11, then 1, 2, 3, 4 at each element's
-    // index.
-    pub fn family(xs: &[u32], ys: &[u32], zs: &[u32], levels: &[u8], kinds: &[u8]) -> TruthAnswer
-        ensures { truth_of result ≡ family (columns xs.now ys.now zs.now levels.now kinds.now) }
-    {
-        if xs.len() != ys.len() {
-            return TruthAnswer::Refused(11, 0);
-        }
-        if xs.len() != zs.len() {
-            return TruthAnswer::Refused(11, 0);
-        }
-        if xs.len() != levels.len() {
-            return TruthAnswer::Refused(11, 0);
-        }
-        if xs.len() != kinds.len() {
-            return TruthAnswer::Refused(11, 0);
-        }
-        let fault = family::first_fault(xs, ys, zs, levels, kinds);
-        if fault.number != 0 {
-            return TruthAnswer::Refused(fault.number, fault.place);
-        }
-        TruthAnswer::Is(family::are_siblings(xs, ys, zs, levels, kinds))
     }
 }

@@ -7,13 +7,13 @@ use native.Mathlib.Nat.{le_refl}
 use native.Mathlib.Omega.{arith}
 use lib.Dec.{leb, ltb}
 use lib.ListN.{length, drop}
-use Rattle.paper.specs.Outcome.{Outcome, scan}
+use Rattle.paper.specs.Outcome.{Outcome, accepted, scan}
 use Rattle.paper.specs.Memory.{written}
-use Rattle.paper.specs.Readings.{value_of, truth_of, comparison_of, pass_of}
-use Rattle.paper.proofs.Faults.{finds_one}
-use Rattle.line.specs.Elements.{line, line_of}
-use Rattle.triangle.specs.Elements.{triangle, triangle_of}
-use Rattle.prism.specs.Elements.{prism, prism_of}
+use Rattle.paper.specs.Refusals.{outcome_of, order_of}
+use Rattle.std.specs.declared.cmp.Ordering.{Ordering}
+use Rattle.line.specs.Elements.{line}
+use Rattle.triangle.specs.Elements.{triangle}
+use Rattle.prism.specs.Elements.{prism}
 use Rattle.leaves.specs.Leaves.{Columns, front}
 use Rattle.columns.specs.Laying.{stretch, stored}
 use Rattle.marks.specs.Marks.{check_marks}
@@ -26,7 +26,7 @@ use Rattle.reader.specs.Calls.{size_of}
 use Rattle.positions.specs.Positions.{position_fault, check_positions}
 use Rattle.corners.specs.declared.Root.{Root}
 use Rattle.corners.specs.declared.Point.{Point}
-use Rattle.corners.specs.CornerPoints.{root_within, corner_point, point_of}
+use Rattle.corners.specs.CornerPoints.{root_within, corner_point}
 use Rattle.corners.specs.Section.{PointColumns, equal_lengths, corner_points, filled}
 use Rattle.fields.specs.Fields.{is_number}
 use Rattle.fields.specs.Inner.{piece, numbered_of}
@@ -44,7 +44,7 @@ use Rattle.promises.specs.Refusals.{Refuses}
 use Rattle.promises.specs.Demand1.{OnLists, OnParts, OfCalls}
 use Rattle.promises.proofs.Refusals.{no_fault, fault_so, in_turn, when, fine, room_so, at0, at1, at2, at3, at4}
 use Rattle.promises.proofs.Calls.{answer, lent}
-use Rattle.promises.proofs.Determined.{lines, triangles, prisms, numbers, truths, comparisons, passes, grids, found_numbers, field_numbers, points, heads, forms_read}
+use Rattle.promises.proofs.Determined.{results, comparisons, orders, grids, found_numbers, field_numbers, heads, forms_read}
 use Rattle.promises.proofs.ElementCalls.{on_elements}
 use Rattle.promises.proofs.ShapeCalls.{line_rows, triangle_rows, prism_rows}
 use Rattle.promises.proofs.ListCalls.{check_so, balanced_so, uniform_so, check_marks_so, adapt_so, shares_so}
@@ -53,12 +53,12 @@ use Rattle.promises.proofs.FileCalls.{front_so, number_so, sound_so, read_so, wr
 on_lists : OnLists
 on_lists =
     record {
-      check = λ k cs. answer pass_of passes (check_so k cs);
-      uniform = λ k level m. lent value_of numbers length front (uniform_so k level m);
-      balanced = λ k cs. answer truth_of truths (balanced_so k cs);
-      adapt = λ k cs ms m. lent value_of numbers length front (adapt_so k cs ms m);
-      shares = λ k p cs ws m. lent pass_of passes (λ (boundaries : List ℕ). tt) written (shares_so k p cs ws m);
-      write = λ k cs m. lent value_of numbers length written (write_so k cs m);
+      check = λ k cs. answer outcome_of results (check_so k cs);
+      uniform = λ k level m. lent outcome_of results length front (uniform_so k level m);
+      balanced = λ k cs. answer outcome_of results (balanced_so k cs);
+      adapt = λ k cs ms m. lent outcome_of results length front (adapt_so k cs ms m);
+      shares = λ k p cs ws m. lent outcome_of results (λ (boundaries : List ℕ). tt) written (shares_so k p cs ws m);
+      write = λ k cs m. lent outcome_of results length written (write_so k cs m);
       read = λ bytes m. lent grid_of grids size_of (λ (g : Grid). front g.leaves) (read_so bytes m);
     }
 
@@ -79,32 +79,22 @@ stretch_one root level position m a b same i = ap (λ (k : ℕ). stored i (stret
 on_parts : OnParts
 on_parts =
     record {
-      order = λ first level second other. answer comparison_of comparisons (fine _);
-      check_positions = λ l ps.
-          record {
-            one = λ r s m m' f g. (finds_one r s (check_positions l ps) f g, refl);
-            spared = λ r m number place f h. refl;
-            refusals = λ r m f. subst (Refuses (1 ∷ 5 ∷ []) (length ps)) (sym f.stands) (check_positions_so l ps);
-          };
-      check_marks = λ highest ls ms.
-          record {
-            one = λ r s m m' f g. (finds_one r s (check_marks highest ls ms) f g, refl);
-            spared = λ r m number place f h. refl;
-            refusals = λ r m f. subst (Refuses (11 ∷ 13 ∷ 7 ∷ []) (length ms)) (sym f.stands) (check_marks_so highest ls ms);
-          };
+      order = λ first level second other. answer (λ (r : Ordering). accepted (order_of r)) orders (fine _);
+      check_positions = λ l ps. answer outcome_of results (check_positions_so l ps);
+      check_marks = λ highest ls ms. answer outcome_of results (check_marks_so highest ls ms);
       number_at = λ bytes i. answer found_of found_numbers (number_so bytes i);
       head_at = λ bytes. answer head_of heads (front_so bytes);
       sound = λ bytes h.
           record {
             one = λ r s m m' f g. (tells_one r s (sound 8 21 bytes h) f g, refl);
             spared = λ r m number place f h. refl;
-            refusals = λ r m f. subst (Refuses (19 ∷ 20 ∷ 1 ∷ 21 ∷ 15 ∷ 12 ∷ 22 ∷ []) (h.next + 6 * h.runs)) (sym f.fault.stands) (sound_so bytes h);
+            refusals = λ r m f. subst (Refuses (19 ∷ 20 ∷ 1 ∷ 21 ∷ 15 ∷ 12 ∷ 22 ∷ []) (h.next + 6 * h.runs)) (sym f.fault) (sound_so bytes h);
           };
       lay = λ at k root level position m r s a b f g.
           let same = f.answer ∙ sym g.answer in
           (same, f.memory ∙ stretch_one root level position m r s same at ∙ sym g.memory);
       field_number = λ s at. answer numbered_of field_numbers (when (not (is_number (piece (drop at s)))) 23 at0 (λ is. fine _));
-      answer = λ bytes m. lent value_of numbers length written (room_so (length bytes) (length m) bytes at0 (le_refl (length bytes)));
+      answer = λ bytes m. lent outcome_of results length written (room_so (length bytes) (length m) bytes at0 (le_refl (length bytes)));
       print = λ bytes m r s a b f g. (f.end ∙ sym g.end, f.written ∙ sym g.written);
       lay_bytes = λ at bytes m r s a b f g. (refl, f ∙ sym g);
     }
@@ -136,14 +126,14 @@ stored_so input m = room_so (length (converted input)) (length m) (converted inp
 pub of_calls : OfCalls
 of_calls =
     record {
-      on_lines = on_elements line line_of (1 ∷ 2 ∷ []) lines line_rows;
-      on_triangles = on_elements triangle triangle_of (1 ∷ 2 ∷ 3 ∷ 4 ∷ []) triangles triangle_rows;
-      on_prisms = on_elements prism prism_of (1 ∷ 2 ∷ 3 ∷ 4 ∷ []) prisms prism_rows;
+      on_lines = on_elements line (1 ∷ 2 ∷ []) line_rows;
+      on_triangles = on_elements triangle (1 ∷ 2 ∷ 3 ∷ 4 ∷ []) triangle_rows;
+      on_prisms = on_elements prism (1 ∷ 2 ∷ 3 ∷ 4 ∷ []) prism_rows;
       on_lists = on_lists;
-      on_points = λ l p i r. answer point_of points (points_so l p i r);
-      on_sections = λ l ps i r m. lent pass_of passes (λ (found : List Point). tt) filled (sections_so l ps i r m);
-      on_orders = λ input m. lent value_of numbers length written (orders_so input m);
-      on_stored = λ input m. lent value_of numbers length written (stored_so input m);
+      on_points = λ l p i r. answer outcome_of results (points_so l p i r);
+      on_sections = λ l ps i r m. lent outcome_of results (λ (found : List Point). tt) filled (sections_so l ps i r m);
+      on_orders = λ input m. lent outcome_of results length written (orders_so input m);
+      on_stored = λ input m. lent outcome_of results length written (stored_so input m);
       on_forms = λ input. answer form_of forms_read (forms_so input);
       field_from_1 = λ input number field e. (read_refused input number field e).1.0;
       on_parts = on_parts;

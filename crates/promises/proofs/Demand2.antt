@@ -4,7 +4,7 @@ use mathlib.Core.List.{List}
 use Prim.Native.Nat.{ℕ}
 use native.Mathlib.Omega.{arith}
 use Rattle.paper.specs.Outcome.{accepted, mapped}
-use Rattle.paper.specs.Readings.{pass_of}
+use Rattle.paper.specs.Refusals.{outcome_of}
 use Rattle.paper.proofs.Memory.{gave}
 use Rattle.tree.specs.Shape.{Shape}
 use Rattle.tree.specs.Laws.{Lawful, Faces, Constants}
@@ -41,12 +41,12 @@ use Rattle.format.proofs.OneFile.{one_file}
 use Rattle.gridfile.proofs.RoundTrip.{round_trip}
 use Rattle.results.specs.Results.{pass_result}
 use Rattle.results.specs.Laws.{words}
-use Rattle.line.proofs.Laws as lines
+use Rattle.line.specs.Lawful as lines
 use Rattle.line.proofs.Constants as line_constants
-use Rattle.triangle.proofs.Laws as triangles
+use Rattle.triangle.specs.Lawful as triangles
 use Rattle.triangle.proofs.Constants as triangle_constants
 use Rattle.triangle.proofs.Inside as triangle_inside
-use Rattle.prism.proofs.Laws as prisms
+use Rattle.prism.specs.Lawful as prisms
 use Rattle.prism.proofs.Constants as prism_constants
 use Rattle.prism.proofs.Inside as prism_inside
 use Rattle.leaves.proofs.Promised as leaves
@@ -128,7 +128,7 @@ of_points =
     record {
       promised = corners.promised;
       drawn = λ l ps i r a m m' f e.
-          let b = gave pass_of (λ (found : List Point). tt) filled (corner_points l ps i r m) a m m' tt f e in
+          let b = gave outcome_of (λ (found : List Point). tt) filled (corner_points l ps i r m) a m m' tt f e in
           left_drawn l ps i r m m' b.0 b.1.0 b.1.1.1;
       drawn_over_c = λ l ps i r word m m' f zero.
           let b = returned words (λ o. pass_result (mapped (λ (found : List Point). tt) o)) filled (corner_points l ps i r m) word m m' (sections_over_c l ps i r m) f zero in

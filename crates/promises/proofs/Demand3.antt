@@ -15,7 +15,7 @@ use Rattle.leaves.proofs.Columns.{leaves_length}
 use Rattle.shares.specs.Shares.{boundaries}
 use Rattle.shares.specs.Calls.{shares}
 use Rattle.shares.specs.Laws.{Fair, Weighty}
-use Rattle.prism.proofs.Laws as prism_laws
+use Rattle.prism.specs.Lawful as prism_laws
 use Rattle.adaption.proofs.Promised.{steps_valid}
 use Rattle.shares.proofs.Boundaries.{boundary_monotone}
 use Rattle.shares.proofs.Promised as shares_laws

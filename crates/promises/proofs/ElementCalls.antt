@@ -9,7 +9,7 @@ use lib.Dec.{leb, ltb, eqb}
 use lib.ListN.{length}
 use borrow.Author.Tests.{le-ltb}
 use Rattle.paper.specs.Outcome.{Outcome, accepted, refused}
-use Rattle.paper.specs.Readings.{value_of, truth_of, comparison_of}
+use Rattle.paper.specs.Refusals.{outcome_of, ordering_of}
 use Rattle.paper.proofs.Tests.{passed_by}
 use Rattle.paper.proofs.Scan.{fault_none}
 use Rattle.tree.specs.Shape.{Shape}
@@ -23,7 +23,7 @@ use Rattle.promises.specs.Demand1.{OnElements}
 use Rattle.promises.specs.Demand2.{HandedBack}
 use Rattle.promises.proofs.Refusals.{Known, fine, refusal, when, fault_at, in_turn, wider, at0, at1, after}
 use Rattle.promises.proofs.Calls.{Determined, answer}
-use Rattle.promises.proofs.Determined.{numbers, truths, comparisons}
+use Rattle.promises.proofs.Determined.{results, comparisons}
 
 -- what lies across a face, or that nothing does
 abbrev pub Either : {E : Type 0} → Shape E → Type 0
@@ -70,20 +70,19 @@ rows S faults known deep across =
       order = λ e f. in_turn S.fault 0 (e ∷ f ∷ []) (λ g inside. known g) (omega arith) (fine (Words.order S e f));
     }
 
-pub on_elements : {E R : Type 0} (S : Shape E) (element_of : R → Outcome E) (faults : List ℕ) → Determined element_of → Rows S faults
-    → OnElements S element_of faults
-on_elements S element_of faults determined refuses =
+pub on_elements : {E : Type 0} (S : Shape E) (faults : List ℕ) → Rows S faults → OnElements S faults
+on_elements S faults refuses =
     record {
-      at = λ l p. answer element_of determined (refuses.at l p);
-      position = λ e. answer value_of numbers (refuses.position e);
-      parent = λ e. answer element_of determined (refuses.parent e);
-      child = λ e i. answer element_of determined (refuses.child e i);
-      successor = λ e. answer element_of determined (refuses.successor e);
-      first = λ e l. answer element_of determined (refuses.descendant (Words.first S) e l);
-      last = λ e l. answer element_of determined (refuses.descendant (Words.last S) e l);
-      neighbour = λ e i. answer element_of determined (refuses.neighbour e i);
-      family = λ equal es. answer truth_of truths (refuses.family equal es);
-      order = λ e f. answer comparison_of comparisons (refuses.order e f);
+      at = λ l p. answer outcome_of results (refuses.at l p);
+      position = λ e. answer outcome_of results (refuses.position e);
+      parent = λ e. answer outcome_of results (refuses.parent e);
+      child = λ e i. answer outcome_of results (refuses.child e i);
+      successor = λ e. answer outcome_of results (refuses.successor e);
+      first = λ e l. answer outcome_of results (refuses.descendant (Words.first S) e l);
+      last = λ e l. answer outcome_of results (refuses.descendant (Words.last S) e l);
+      neighbour = λ e i. answer outcome_of results (refuses.neighbour e i);
+      family = λ equal es. answer outcome_of results (refuses.family equal es);
+      order = λ e f. answer ordering_of comparisons (refuses.order e f);
     }
 
 -- ---- a sound element handed back

@@ -6,8 +6,9 @@ use native.Mathlib.Omega.{arith}
 use lib.ListN.{length, take}
 use Rattle.paper.specs.Outcome.{Outcome, accepted, mapped}
 use Rattle.paper.specs.Memory.{written, Fulfils}
-use Rattle.paper.specs.Readings.{value_of, pass_of}
-use Rattle.paper.specs.declared.NumberAnswer.{NumberAnswer}
+use Rattle.paper.specs.Refusals.{outcome_of}
+use Rattle.std.specs.declared.result.Result.{Result}
+use Rattle.paper.specs.declared.Refusal.{Refusal}
 use Rattle.paper.proofs.Memory.{gave}
 use Rattle.leaves.specs.Leaves.{Leaf, Columns, leaves, columns_of, first_entries, front, uniform_list}
 use Rattle.leaves.specs.Calls.{uniform}
@@ -72,9 +73,9 @@ module _ (k : ℕ) (due : Outcome (List Leaf)) (vs : List Leaf) (is_list : (ws :
   listed_as ws m m' N is kept long =
       let here = front_list k ws m m' N (is_list ws is) kept long in (here.0 ∙ ap columns_of (which ws is), here.1)
 
-  given : (N : ℕ) (r : NumberAnswer) (m m' : Columns) → Fulfils value_of (mapped length) front due r m m' → value_of r ≡ accepted N
+  given : (N : ℕ) (r : Result ℕ Refusal) (m m' : Columns) → Fulfils outcome_of (mapped length) front due r m m' → outcome_of r ≡ accepted N
       → Stored k vs (first_entries N m')
-  given N r m m' f e = let a = gave value_of length front due r m m' N f e in listed_as a.0 m m' N a.1.0 a.1.1.1 a.1.1.0
+  given N r m m' f e = let a = gave outcome_of length front due r m m' N f e in listed_as a.0 m m' N a.1.0 a.1.1.1 a.1.1.0
 
 pub in_memory : InMemory
 in_memory =
@@ -86,10 +87,10 @@ in_memory =
           given k (adapt 8 21 k cs ms m) (adapted 8 (leaves cs) ms) (adapt_listed 8 21 (omega arith) k cs ms m)
           (λ ws is. ((accepts.adapt k cs ms m ws).0 is).result) N r m m';
       shared = λ k p r cs ws m m' f e.
-          let a = gave pass_of (λ (boundaries : List ℕ). tt) written (shares 8 21 k p cs ws m) r m m' tt f e in
+          let a = gave outcome_of (λ (boundaries : List ℕ). tt) written (shares 8 21 k p cs ws m) r m m' tt f e in
           front_boundaries k p cs ws m m' a.0 a.1.0 a.1.1.1;
       saved = λ k N r cs m m' f e.
-          let a = gave value_of length written (write 8 21 k cs m) r m m' N f e in
+          let a = gave outcome_of length written (write 8 21 k cs m) r m m' N f e in
           front_bytes a.0 m m' N a.1.1.1 a.1.1.0 ∙ sym (wrote_file 8 21 k cs m a.0 a.1.0);
       loaded = λ bytes K N r m m' f e.
           let a = gave grid_of size_of (λ (g : Grid). front g.leaves) (read 8 21 bytes m) r m m' (size K N) f e in

@@ -9,8 +9,9 @@ use lib.Seq.{drop-append_seam}
 use borrow.Author.Tests.{le-ltb, ltb-false}
 use Rattle.paper.specs.Outcome.{accepted}
 use Rattle.paper.specs.Memory.{written, Fulfils}
-use Rattle.paper.specs.Readings.{value_of}
-use Rattle.paper.specs.declared.NumberAnswer.{NumberAnswer}
+use Rattle.paper.specs.Refusals.{outcome_of}
+use Rattle.std.specs.declared.result.Result.{Result}
+use Rattle.paper.specs.declared.Refusal.{Refusal}
 use Rattle.paper.proofs.Memory.{gave}
 use Rattle.paper.proofs.Scan.{accepted_of, accepted_same}
 use Rattle.text.specs.Text.{printing, Prints, longest_output}
@@ -48,9 +49,9 @@ module _ (t m m' : List ℕ) where
       let same : bs ≡ t = sym (accepted_same t bs a.1) in
       holds t m m' N (ltb-false (length m) (length t) a.0) (kept ∙ ap (λ (u : List ℕ). written u m) same) (ap length (sym same) ∙ long)
 
-  front : (N : ℕ) (r : NumberAnswer) → Prints t r m m' → value_of r ≡ accepted N → Holds t N m m'
+  front : (N : ℕ) (r : Result ℕ Refusal) → Prints t r m m' → outcome_of r ≡ accepted N → Holds t N m m'
   front N r f e =
-      let a = gave value_of length written (printing t (length m)) r m m' N f e in
+      let a = gave outcome_of length written (printing t (length m)) r m m' N f e in
       of_bytes a.0 N a.1.0 a.1.1.1 a.1.1.0
 
   front_over_c : {ns : List ℕ} {most : ℕ} (r : NumberResult) → Flat numbers ns most (printing t (length m)) m (λ r m'. Returned t r m m')
@@ -63,7 +64,7 @@ module _ (t m m' : List ℕ) where
     room : printing t (length m) ≡ accepted t
     room = simp (le-ltb (length m) (length t) fits)
 
-    answers : (r : NumberAnswer) → Prints t r m m' → value_of r ≡ accepted (length t)
+    answers : (r : Result ℕ Refusal) → Prints t r m m' → outcome_of r ≡ accepted (length t)
     answers r f = f.answer ∙ simp (le-ltb (length m) (length t) fits)
 
     answers_over_c : (r : NumberResult) → Returned t r m m' → r.refusal ≡ 0

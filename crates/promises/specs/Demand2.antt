@@ -24,8 +24,9 @@
 use Rattle.std.specs.Prelude.{Bool, ◌≡◌, ℕ, ◌≤◌, ◌<◌}
 use mathlib.Core.List.{List, [], ◌∷◌, Memᴰ}
 use Rattle.paper.specs.Outcome.{refused, passed}
-use Rattle.paper.specs.Readings.{pass_of}
-use Rattle.paper.specs.declared.PassAnswer.{PassAnswer}
+use Rattle.paper.specs.Refusals.{outcome_of}
+use Rattle.std.specs.declared.result.Result.{Result}
+use Rattle.paper.specs.declared.Refusal.{Refusal}
 use Rattle.tree.specs.Anchors.{HIGHEST}
 use Rattle.tree.specs.Shape.{Shape}
 use Rattle.tree.specs.Calls as calls
@@ -160,7 +161,7 @@ pub record OfFiles : Type 0 where
 
 pub record OfPoints : Type 0 where
   pub promised : corners.Promised
-  pub drawn : (l : ℕ) (ps : List ℕ) (i : ℕ) (r : Root) (a : PassAnswer) (m m' : PointColumns) → SectionFilled l ps i r a m m' → pass_of a ≡ passed
+  pub drawn : (l : ℕ) (ps : List ℕ) (i : ℕ) (r : Root) (a : Result (Unit {0}) Refusal) (m m' : PointColumns) → SectionFilled l ps i r a m m' → outcome_of a ≡ passed
       → Drawn l ps i r m'
   pub drawn_over_c : (l : ℕ) (ps : List ℕ) (i : ℕ) (r : Root) (word : ℕ) (m m' : PointColumns) → PointsResult l ps i r word m m' → word ≡ 0
       → Drawn l ps i r m'

@@ -8,9 +8,9 @@
 -- Assumes nothing.
 use Rattle.std.specs.Prelude.{◌≡◌, List, ℕ, ◌+◌, take}
 use Rattle.paper.specs.Outcome.{accepted, passed}
-use Rattle.paper.specs.Readings.{value_of, pass_of}
-use Rattle.paper.specs.declared.NumberAnswer.{NumberAnswer}
-use Rattle.paper.specs.declared.PassAnswer.{PassAnswer}
+use Rattle.paper.specs.Refusals.{outcome_of}
+use Rattle.std.specs.declared.result.Result.{Result}
+use Rattle.paper.specs.declared.Refusal.{Refusal}
 use Rattle.tree.specs.Anchors.{HIGHEST}
 use Rattle.leaves.specs.Leaves.{CHILDREN, Columns, leaves, columns_of, first_entries, uniform_list}
 use Rattle.leaves.specs.Calls.{Started}
@@ -24,22 +24,22 @@ use Rattle.format.specs.Reading.{grid_at}
 use Rattle.writer.specs.Calls.{FileWritten}
 use Rattle.reader.specs.Answers.{size, grid_of}
 use Rattle.reader.specs.Calls.{FileRead}
-use Rattle.reader.specs.declared.GridAnswer.{GridAnswer}
+use Rattle.reader.specs.declared.Grid as grid
 use Rattle.results.specs.declared.NumberResult.{NumberResult}
 use Rattle.results.specs.declared.GridResult.{GridResult}
 use Rattle.interface.specs.Calls.{UniformResult, AdaptResult, SharesResult, WriteResult, ReadResult}
 use Rattle.promises.specs.Demand3.{Divided}
 
 pub record InMemory : Type 0 where
-  pub started : (k level N : ℕ) (r : NumberAnswer) (m m' : Columns) → Started k level r m m' → value_of r ≡ accepted N
+  pub started : (k level N : ℕ) (r : Result ℕ Refusal) (m m' : Columns) → Started k level r m m' → outcome_of r ≡ accepted N
       → (first_entries N m' ≡ columns_of (uniform_list CHILDREN HIGHEST k level)) × ValidList CHILDREN HIGHEST k (first_entries N m')
-  pub adapted : (k N : ℕ) (r : NumberAnswer) (cs : Columns) (ms : List ℕ) (m m' : Columns) → Adapted k r cs ms m m' → value_of r ≡ accepted N
+  pub adapted : (k N : ℕ) (r : Result ℕ Refusal) (cs : Columns) (ms : List ℕ) (m m' : Columns) → Adapted k r cs ms m m' → outcome_of r ≡ accepted N
       → (first_entries N m' ≡ columns_of (adaption.adapted CHILDREN (leaves cs) ms)) × ValidList CHILDREN HIGHEST k (first_entries N m')
-  pub shared : (k p : ℕ) (r : PassAnswer) (cs : Columns) (ws m m' : List ℕ) → Shared k p r cs ws m m' → pass_of r ≡ passed
+  pub shared : (k p : ℕ) (r : Result (Unit {0}) Refusal) (cs : Columns) (ws m m' : List ℕ) → Shared k p r cs ws m m' → outcome_of r ≡ passed
       → (take (p + 1) m' ≡ boundaries p ws) × Divided k p (leaves cs) ws
-  pub saved : (k N : ℕ) (r : NumberAnswer) (cs : Columns) (m m' : List ℕ) → FileWritten k r cs m m' → value_of r ≡ accepted N
+  pub saved : (k N : ℕ) (r : Result ℕ Refusal) (cs : Columns) (m m' : List ℕ) → FileWritten k r cs m m' → outcome_of r ≡ accepted N
       → take N m' ≡ file_of k (leaves cs)
-  pub loaded : (bytes : List ℕ) (K N : ℕ) (r : GridAnswer) (m m' : Columns) → FileRead bytes r m m' → grid_of r ≡ accepted (size K N)
+  pub loaded : (bytes : List ℕ) (K N : ℕ) (r : Result grid.Grid Refusal) (m m' : Columns) → FileRead bytes r m m' → grid_of r ≡ accepted (size K N)
       → (grid_at CHILDREN HIGHEST bytes ≡ accepted (record { roots = K; leaves = leaves (first_entries N m') }))
       × ValidList CHILDREN HIGHEST K (first_entries N m')
 

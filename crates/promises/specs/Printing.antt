@@ -11,8 +11,9 @@
 -- Assumes nothing.
 use Rattle.std.specs.Prelude.{◌≡◌, List, ℕ, ◌≤◌, length, take, drop}
 use Rattle.paper.specs.Outcome.{accepted}
-use Rattle.paper.specs.Readings.{value_of}
-use Rattle.paper.specs.declared.NumberAnswer.{NumberAnswer}
+use Rattle.paper.specs.Refusals.{outcome_of}
+use Rattle.std.specs.declared.result.Result.{Result}
+use Rattle.paper.specs.declared.Refusal.{Refusal}
 use Rattle.forms.specs.declared.Form.{Form}
 use Rattle.text.specs.Text.{longest_output}
 use Rattle.orders.specs.Calls.{output, Answered}
@@ -29,11 +30,11 @@ pub record Holds (t : List ℕ) (N : ℕ) (m m' : List ℕ) : Type 0 where
   pub front : take N m' ≡ t
   pub behind : drop N m' ≡ drop N m
 
-pub record Printed (shown : List ℕ → List ℕ) (most : ℕ) (C : NumberAnswer → List ℕ → List ℕ → List ℕ → Type 0)
+pub record Printed (shown : List ℕ → List ℕ) (most : ℕ) (C : Result ℕ Refusal → List ℕ → List ℕ → List ℕ → Type 0)
     (D : NumberResult → List ℕ → List ℕ → List ℕ → Type 0) : Type 0 where
-  pub in_memory : (input : List ℕ) (N : ℕ) (r : NumberAnswer) (m m' : List ℕ) → C r input m m' → value_of r ≡ accepted N → Holds (shown input) N m m'
+  pub in_memory : (input : List ℕ) (N : ℕ) (r : Result ℕ Refusal) (m m' : List ℕ) → C r input m m' → outcome_of r ≡ accepted N → Holds (shown input) N m m'
   pub over_c : (input : List ℕ) (r : NumberResult) (m m' : List ℕ) → D r input m m' → r.refusal ≡ 0 → Holds (shown input) r.value m m'
-  pub enough : (input : List ℕ) (r : NumberAnswer) (m m' : List ℕ) → C r input m m' → most ≤ length m → value_of r ≡ accepted (length (shown input))
+  pub enough : (input : List ℕ) (r : Result ℕ Refusal) (m m' : List ℕ) → C r input m m' → most ≤ length m → outcome_of r ≡ accepted (length (shown input))
   pub enough_over_c : (input : List ℕ) (r : NumberResult) (m m' : List ℕ) → D r input m m' → most ≤ length m → r.refusal ≡ 0
 
 pub record OfOrders : Type 0 where
@@ -43,7 +44,7 @@ pub record OfOrders : Type 0 where
 pub record OfStored : Type 0 where
   pub promised : converter.Promised
   pub printed : Printed converted longest_line Converts ConvertResult
-  pub rerun : (s : List ℕ) (f : Form) → old_read s ≡ accepted f → (N N₂ : ℕ) (r r₂ : NumberAnswer) (m m' n n' : List ℕ)
-      → Converts r s m m' → value_of r ≡ accepted N → Answered r₂ (take N m') n n' → value_of r₂ ≡ accepted N₂ → Holds (old_output s) N₂ n n'
+  pub rerun : (s : List ℕ) (f : Form) → old_read s ≡ accepted f → (N N₂ : ℕ) (r r₂ : Result ℕ Refusal) (m m' n n' : List ℕ)
+      → Converts r s m m' → outcome_of r ≡ accepted N → Answered r₂ (take N m') n n' → outcome_of r₂ ≡ accepted N₂ → Holds (old_output s) N₂ n n'
   pub rerun_over_c : (s : List ℕ) (f : Form) → old_read s ≡ accepted f → (r r₂ : NumberResult) (m m' n n' : List ℕ)
       → ConvertResult r s m m' → r.refusal ≡ 0 → OrderResult r₂ (take r.value m') n n' → r₂.refusal ≡ 0 → Holds (old_output s) r₂.value n n'

@@ -7,6 +7,7 @@ ghost use Rattle.promises.specs.Constants.{stated};
 
 use line::Line;
 use prism::Prism;
+use tree::element::Element;
 use triangle::Triangle;
 
 // Does nothing. What it ensures is what is promised, so that the gate fails where a promise is not proved.

@@ -141,9 +141,18 @@ module _ (l E k r first i : ℕ) (m : Columns) where
           under {x} {y} upto other = omega arith
 
 -- ---- a run of a file, in the code's powers
-module _ (b L l k : ℕ) (c : Spot) (f : Running b L l k c) where
+module _ (l k : ℕ) (c : Spot) (f : Running l k c) where
+  abbrev b : ℕ
+  b = 3
+
+  abbrev L : ℕ
+  L = 21
+
   abbrev n : ℕ
   n = 2 ^ b
+
+  narrow : b * L ≤ 63
+  narrow = omega arith
 
   abbrev each : ℕ
   each = 1 * 2 ^ (b * l) % 2 ^ 64
@@ -152,7 +161,7 @@ module _ (b L l k : ℕ) (c : Spot) (f : Running b L l k c) where
   first = c.cell / 2 ^ (b * (L - l))
 
   each_is : each ≡ n ^ l
-  each_is = level_is b L l f.narrow f.shallow
+  each_is = level_is b L l narrow f.shallow
 
   first_is : first ≡ c.cell / span n L l
   first_is = ap (λ (s : ℕ). c.cell / s) (sym (power_bits b (L - l)))
@@ -166,7 +175,7 @@ module _ (b L l k : ℕ) (c : Spot) (f : Running b L l k c) where
   some_each = subst⁻¹ (λ (x : ℕ). 0 < x) each_is (power_pos n l (pow_pos b))
 
   pub each_small : each ≤ 2 ^ 63
-  each_small = subst⁻¹ (λ (x : ℕ). x ≤ 2 ^ 63) (each_is ∙ power_bits b l) (pow_mono (bits_le b L f.narrow l f.shallow))
+  each_small = subst⁻¹ (λ (x : ℕ). x ≤ 2 ^ 63) (each_is ∙ power_bits b l) (pow_mono (bits_le b L narrow l f.shallow))
 
   pub first_below : first < each
   first_below = omega (arith, units_below n L l 0 (pow_pos b) f.shallow c f.proper f.whole, first_is, each_is)
@@ -175,12 +184,12 @@ module _ (b L l k : ℕ) (c : Spot) (f : Running b L l k c) where
   end_low = omega (arith, f.low, ap (λ (s : Spot). s.root) end_is)
 
   pub laid_run : (i d rt p : ℕ) (m m' : Columns) → Laid l each k c.root first i m d rt p m' → k ≤ d
-      → RunLaid b L l k c i (spot_at rt (p * 2 ^ (b * (L - l)) % 2 ^ 64)) m m'
+      → RunLaid l k c i (spot_at rt (p * 2 ^ (b * (L - l)) % 2 ^ 64)) m m'
   laid_run i d rt p m m' g past =
       let all : d ≡ k = omega (arith, g.upto) in
       let low = position_below l each k c.root first i m d rt p m' g some_each in
       let cell : p * 2 ^ (b * (L - l)) % 2 ^ 64 ≡ (first + k) % each * span n L l =
-      shifted b L f.narrow p l f.shallow (omega (arith, low, each_is))
+      shifted b L narrow p l f.shallow (omega (arith, low, each_is))
       ∙ ap (λ (x : ℕ). x * span n L l) (g.position ∙ ap (λ (x : ℕ). (first + x) % each) all) in
       let same : rows (entry c.root l each) first k ≡ leaves_from n L c l k =
       ap₂ (λ (x E : ℕ). rows (entry c.root l E) x k) first_is each_is

@@ -1,3 +1,4 @@
+pub mod Loans
 pub mod Laying
 pub mod Underway
 pub mod Loading

@@ -11,7 +11,15 @@ use Rattle.leaves.specs.Calls.{limit}
 use Rattle.leaves.proofs.Span.{power_pos}
 use Rattle.columns.specs.Laying.{stored, Room}
 use Rattle.columns.proofs.Stretches.{roots_stay, levels_stay, positions_stay, front_more}
-use Rattle.numbers.specs.Numbers.{found}
+use Rattle.paper.specs.declared.Refusal.{Refusal}
+use Rattle.std.specs.declared.result.Result.{Result}
+use Rattle.std.specs.declared.result.Result.TheVariants.{Ok, Err}
+use Rattle.std.specs.Result.{IsOk}
+use Rattle.paper.specs.Refusals.{number_of, place_of}
+use Rattle.paper.proofs.Scan.{never, accepted_same}
+use Rattle.numbers.specs.declared.Found as code
+use Rattle.numbers.specs.Answers.{found_of}
+use Rattle.numbers.specs.Numbers.{Found, found, number_at}
 use Rattle.format.specs.Reading.{leaves_from, end_from, FoundRun, Walk, walk_at, Sounded, start, keep, run_at, sound_from}
 use Rattle.format.proofs.Runs.{leaves_count}
 use Rattle.format.proofs.Fitting.{after_proper}
@@ -19,7 +27,11 @@ use Rattle.format.proofs.Units.{upto_root}
 use Rattle.format.proofs.Spots.{fits_whole, fits_is}
 use Rattle.format.proofs.Taking.{run_taken}
 use Rattle.format.proofs.Following.{sound_more, sound_ends, first_kept}
-use Rattle.reader.specs.Inner.{PairAt}
+
+-- a number that is there is found
+found_ok : (o : Result code.Found Refusal) (f : Found) → found_of o ≡ accepted f → IsOk o
+found_ok (Ok x) f e = refl
+found_ok (Err r) f e = never f (number_of r) (place_of r) e
 
 module _ (n L K : ℕ) (positive : 0 < n) (bs : List ℕ) (vs : List Leaf) (m : Columns) where
   abbrev leftover : ℕ → Walk → List Leaf
@@ -129,17 +141,56 @@ module _ (n L K : ℕ) (positive : 0 < n) (bs : List ℕ) (vs : List Leaf) (m : 
               });
         }
 
-    pub turn_is : L < 256 → 0 < R → (lv ct nx : ℕ) → PairAt bs i lv ct nx → Turn R i c N m' lv ct nx
-    turn_is low some lv ct nx pair =
+    -- the run that stands here
+    pub next_run : 0 < R → (r : FoundRun) × (run_at n L bs K here ≡ accepted r)
+    next_run some =
         let one : R ≡ suc (R - 1) = omega arith in
-        let first = first_kept n L bs K (R - 1) here (subst (λ (k : ℕ). (sound_from n L bs K k here).walk.runs ≡ u.kept + k) one u.left) in
-        let r = first.0 in
-        let t = run_taken n L K bs here r first.1 in
-        let p = pair (found r.level t.after_level) (found r.count r.next) t.level (omega (arith, low, t.shallow)) t.count in
-        subst⁻¹ (λ (x : ℕ). Turn R i c N m' x ct nx) p.0
-        (subst⁻¹ (λ (x : ℕ). Turn R i c N m' r.level x nx) p.1.0
-        (subst⁻¹ (λ (x : ℕ). Turn R i c N m' r.level r.count x) p.1.1
-        (turn_of some r first.1)))
+        first_kept n L bs K (R - 1) here (subst (λ (k : ℕ). (sound_from n L bs K k here).walk.runs ≡ u.kept + k) one u.left)
+
+    -- its level, and its count
+    record Pair : Type 0 where
+      level : Found
+      count : Found
+      level_at : number_at bs i ≡ accepted level
+      count_at : number_at bs level.next ≡ accepted count
+      shallow : level.value ≤ L
+
+    pair : 0 < R → Pair
+    pair some =
+        let r = next_run some in
+        let t = run_taken n L K bs here r.0 r.1 in
+        record { level = found r.0.level t.after_level; count = found r.0.count r.0.next; level_at = t.level; count_at = t.count; shallow = t.shallow }
+
+    pub level_there : 0 < R → (o : Result code.Found Refusal) → found_of o ≡ number_at bs i → IsOk o
+    level_there some o e = found_ok o (pair some).level (e ∙ (pair some).level_at)
+
+    module _ (some : 0 < R) (o : Result code.Found Refusal) (level : code.Found) (told : found_of o ≡ number_at bs i) (is : o ≡ Ok level) where
+      abbrev l : Found
+      l = found level.value level.next
+
+      at : accepted l ≡ number_at bs i
+      at = sym (ap found_of is) ∙ told
+
+      same_level : l ≡ (pair some).level
+      same_level = accepted_same l (pair some).level (at ∙ (pair some).level_at)
+
+      pub level_low : level.value ≤ L
+      level_low = omega (arith, (pair some).shallow, ap (λ (f : Found). f.value) same_level)
+
+      module _ (o' : Result code.Found Refusal) (told' : found_of o' ≡ number_at bs level.next) where
+        pub count_there : IsOk o'
+        count_there = found_ok o' (pair some).count (told' ∙ ap (λ (f : Found). number_at bs f.next) same_level ∙ (pair some).count_at)
+
+        pub turn_is : (count : code.Found) → o' ≡ Ok count → Turn R i c N m' level.value count.value count.next
+        turn_is count is' =
+            let k = found count.value count.next in
+            let r = next_run some in
+            let t = run_taken n L K bs here r.0 r.1 in
+            let one : l ≡ found r.0.level t.after_level = accepted_same l (found r.0.level t.after_level) (at ∙ t.level) in
+            let two : k ≡ found r.0.count r.0.next =
+            accepted_same k (found r.0.count r.0.next) (sym (ap found_of is') ∙ told' ∙ ap (λ (f : Found). number_at bs f.next) one ∙ t.count) in
+            subst⁻¹ (λ (f : Found). Turn R i c N m' f.value k.value k.next) one
+            (subst⁻¹ (λ (f : Found). Turn R i c N m' r.0.level f.value f.next) two (turn_of some r.0 r.1))
 
     pub underway_all : R ≤ 0 → m' ≡ front vs m
     underway_all none =

@@ -2,13 +2,15 @@
 -- values for each of the enum's cases, and the promises use that definition."
 --
 --   Size     the number of roots and of leaves of a grid
---   grid_of  the outcome that a GridAnswer stands for
+--   grid_of  the outcome that a Grid, read or refused, stands for
 --
 -- Assumes nothing.
 use Rattle.std.specs.Prelude.{ℕ}
-use Rattle.paper.specs.Outcome.{Outcome, accepted, refused}
-use Rattle.reader.specs.declared.GridAnswer.{GridAnswer}
-use Rattle.reader.specs.declared.GridAnswer.TheVariants as grid
+use Rattle.std.specs.declared.result.Result.{Result}
+use Rattle.paper.specs.declared.Refusal.{Refusal}
+use Rattle.paper.specs.Outcome.{Outcome, mapped}
+use Rattle.paper.specs.Refusals.{outcome_of}
+use Rattle.reader.specs.declared.Grid.{Grid}
 
 pub record Size : Type 0 where
   pub roots : ℕ
@@ -17,6 +19,5 @@ pub record Size : Type 0 where
 abbrev pub size : ℕ → ℕ → Size
 size roots leaves = record { roots = roots; leaves = leaves }
 
-abbrev pub grid_of : GridAnswer → Outcome Size
-grid_of (grid.Is roots leaves) = accepted (size roots leaves)
-grid_of (grid.Refused number place) = refused number place
+abbrev pub grid_of : Result Grid Refusal → Outcome Size
+grid_of r = mapped (λ (g : Grid). size g.roots g.leaves) (outcome_of r)

@@ -8,13 +8,15 @@
 --
 -- Assumes nothing.
 use Rattle.std.specs.Prelude.{not, List, ℕ, length}
+use Rattle.std.specs.declared.result.Result.{Result}
+use Rattle.paper.specs.declared.Refusal.{Refusal}
 use Rattle.paper.specs.Outcome.{Outcome, refuse_when, mapped, and_then}
 use Rattle.paper.specs.Memory.{room_for, Fulfils}
 use Rattle.tree.specs.Anchors.{HIGHEST}
 use Rattle.leaves.specs.Leaves.{CHILDREN, Columns, equal_columns, room, front}
 use Rattle.format.specs.Reading.{Grid, grid_at}
 use Rattle.reader.specs.Answers.{Size, size, grid_of}
-use Rattle.reader.specs.declared.GridAnswer.{GridAnswer}
+use Rattle.reader.specs.declared.Grid as code
 
 abbrev pub read : ℕ → ℕ → List ℕ → Columns → Outcome Grid
 read n L bs m =
@@ -25,5 +27,5 @@ read n L bs m =
 abbrev pub size_of : Grid → Size
 size_of g = size g.roots (length g.leaves)
 
-abbrev pub FileRead : List ℕ → GridAnswer → Columns → Columns → Type 0
+abbrev pub FileRead : List ℕ → Result code.Grid Refusal → Columns → Columns → Type 0
 FileRead bs r m m' = Fulfils grid_of (mapped size_of) (λ (g : Grid). front g.leaves) (read CHILDREN HIGHEST bs m) r m m'

@@ -1,113 +1,59 @@
-// The second pass over the runs of a file: the leaves of the runs that are sound, stored in three columns run by run.
-ghost use Rattle.std.specs.Prelude.{◌≡◌, ◌+◌, ◌*◌, ◌^◌, ◌≤◌, ◌<◌, length};
-ghost use Rattle.leaves.specs.Leaves.{columns, front};
+// The second pass over the runs of a file that is sound: their leaves, stored in three columns run by run.
+ghost use Rattle.std.specs.Prelude.{◌≡◌, ◌+◌, length};
+ghost use Rattle.tree.specs.Anchors.{HIGHEST};
+ghost use Rattle.leaves.specs.Leaves.{CHILDREN, front};
+ghost use Rattle.columns.specs.Lent.{held, SameLoans};
 ghost use Rattle.columns.specs.Laying.{Room};
-ghost use Rattle.format.specs.Reading.{start, sound_from};
-ghost use Rattle.sounding.specs.Answers.{spot_of};
-ghost use Rattle.reader.specs.Inner.{PairAt, CountAt, Running, RunLaid};
+ghost use Rattle.format.specs.Reading.{sound};
+ghost use Rattle.sounding.specs.Answers.{front_of, spot_of};
+ghost use Rattle.reader.specs.Inner.{Running, RunLaid};
 
-use crate::Pair;
-use numbers::FoundNumber;
-use sounding::Cursor;
+use columns::LentColumns;
+use leaves::{BITS, Leaf};
+use numbers::number_at;
+use sounding::{Cursor, Head};
+use tree::HIGHEST;
 
-// The leaves of so many runs, the first at `at`, of k roots.
-pub(crate) fn columns(
-    bits: u8,
-    highest: u8,
-    k: u16,
-    runs: u32,
-    at: usize,
-    bytes: &[u8],
-    roots: &mut [u16],
-    levels: &mut [u8],
-    positions: &mut [u64],
-)
-    requires highest_bound { bits * highest ≤ 63 }
-    requires at_value { (sound_from (2 ^ bits) highest bytes.now k runs (start (2 ^ bits) highest at)).walk.runs ≡ runs }
-    requires room { Room (length (sound_from (2 ^ bits) highest bytes.now k runs (start (2 ^ bits) highest at)).leaves)
-        (columns roots.old levels.old positions.old) }
-    ensures { columns roots.new levels.new positions.new
-        ≡ front (sound_from (2 ^ bits) highest bytes.now k runs (start (2 ^ bits) highest at)).leaves
-        (columns roots.old levels.old positions.old) }
+// The leaves of the runs behind a head.
+pub(crate) fn columns(head: Head, bytes: &[u8], lent: &mut LentColumns)
+    requires runs_sound { (sound CHILDREN HIGHEST bytes.now (front_of head)).walk.runs ≡ head.runs }
+    requires room { Room (length (sound CHILDREN HIGHEST bytes.now (front_of head)).leaves) (held lent.old) }
+    ensures loans { SameLoans lent.old lent.new }
+    ensures filled { held lent.new ≡ front (sound CHILDREN HIGHEST bytes.now (front_of head)).leaves (held lent.old) }
 {
-    let mut at = at;
+    let mut at = head.at;
     let mut come = Cursor { root: 0, cell: 0 };
     let mut size = 0;
-    let mut left = runs;
-    while 0 < left {
-        let pair = pair_at(bytes, at);
-        come = run(
-            bits, highest, pair.level, pair.count, come, size, roots, levels, positions,
-        );
-        size += pair.count as usize;
-        at = pair.next;
-        left -= 1;
-    }
-}
-
-// The level and the count that stand at an offset of a sound file.
-fn pair_at(bytes: &[u8], at: usize) -> Pair
-    ensures { PairAt bytes.now at result.level result.count result.next }
-{
-    match numbers::number_at(bytes, at) {
-        FoundNumber::Is(level, next) => count_at(bytes, (level % 256) as u8, next),
-        FoundNumber::Refused(_, _) => Pair {
-            level: 0,
-            count: 0,
-            next: at,
-        },
-    }
-}
-
-// The count that stands at an offset, after a level.
-fn count_at(bytes: &[u8], level: u8, at: usize) -> Pair
-    ensures { CountAt bytes.now at level result.level result.count result.next }
-{
-    match numbers::number_at(bytes, at) {
-        FoundNumber::Is(count, next) => Pair { level, count, next },
-        FoundNumber::Refused(_, _) => Pair {
-            level,
-            count: 0,
-            next: at,
-        },
+    for _run in 0..head.runs {
+        let level = number_at(bytes, at).unwrap();
+        let count = number_at(bytes, level.next).unwrap();
+        come = run(level.value as u8, count.value, come, size, lent);
+        size += count.value as usize;
+        at = count.next;
     }
 }
 
 // The leaves of one run, from entry `at` of each column on, root by root; the answer is where they end.
-fn run(
-    bits: u8,
-    highest: u8,
-    level: u8,
-    count: u32,
-    come: Cursor,
-    at: usize,
-    roots: &mut [u16],
-    levels: &mut [u8],
-    positions: &mut [u64],
-) -> Cursor
-    requires running { Running bits highest level count (spot_of come) }
-    requires room { Room (at + count) (columns roots.old levels.old positions.old) }
-    ensures { RunLaid bits highest level count (spot_of come) at (spot_of result)
-        (columns roots.old levels.old positions.old)
-        (columns roots.new levels.new positions.new) }
+fn run(level: u8, count: u32, come: Cursor, at: usize, lent: &mut LentColumns) -> Cursor
+    requires running { Running level count (spot_of come) }
+    requires room { Room (at + count) (held lent.old) }
+    ensures loans { SameLoans lent.old lent.new }
+    ensures laid { RunLaid level count (spot_of come) at (spot_of result) (held lent.old) (held lent.new) }
 {
-    let narrow = bits * (highest - level);
-    let each = 1u64 << (bits * level);
+    let narrow = BITS * (HIGHEST - level);
+    let each = 1u64 << (BITS * level);
     let mut root = come.root;
     let mut position = come.cell >> narrow;
     let mut done = 0;
-    while done < count as u64 {
-        let many = least(each - position, count as u64 - done);
-        columns::lay(
-            at + done as usize,
-            many as usize,
-            root as u16,
+    // Not a range: a step is what is left of a root, or of the run.
+    while done < u64::from(count) {
+        let many = (each - position).min(u64::from(count) - done);
+        let first = Leaf {
+            root: root as u16,
             level,
             position,
-            roots,
-            levels,
-            positions,
-        );
+        };
+        columns::lay(at + done as usize, many as usize, first, lent);
         done += many;
         position += many;
         if position == each {
@@ -119,14 +65,4 @@ fn run(
         root,
         cell: position << narrow,
     }
-}
-
-// The lesser of two numbers.
-fn least(a: u64, b: u64) -> u64
-    ensures { (result ≤ a) × ((result ≤ b) × (0 < a → 0 < b → 0 < result)) }
-{
-    if a < b {
-        return a;
-    }
-    b
 }

@@ -3,6 +3,7 @@
 --   word o         0 when accepted, else place·256 + number; a place is taken modulo 2^56, so that the word always holds it (no lent
 --                  column has as many entries)
 --   value_or z o   the value, z on a refusal
+--   Told z o w v   w is the word of o, and v its value, z on a refusal
 --   pass_result    of a call with no value: the word alone
 --   line_result, triangle_result, prism_result, number_result, truth_result, compare_result, point_result
 --                  what the call with the outcome o returns: on a refusal every field of the value is 0
@@ -10,7 +11,7 @@
 --   sign_of o      less is -1, same 0, greater 1
 --
 -- Assumes nothing.
-use Rattle.std.specs.Prelude.{Bool, true, false, ℕ, ◌+◌, ◌*◌, ◌%◌, ◌^◌, ℤ, pos, negsuc}
+use Rattle.std.specs.Prelude.{◌≡◌, Bool, true, false, ℕ, ◌+◌, ◌*◌, ◌%◌, ◌^◌, ℤ, pos, negsuc}
 use Rattle.std.specs.Float.{fin}
 use Rattle.paper.specs.Outcome.{Outcome, accepted, refused, Order, less, same, greater}
 use Rattle.line.specs.declared.Line.{Line}
@@ -33,6 +34,10 @@ word (refused number place) = place % 2 ^ 56 * 256 + number
 abbrev pub value_or : {A : Type 0} → A → Outcome A → A
 value_or nothing (accepted a) = a
 value_or nothing (refused number place) = nothing
+
+pub record Told {A : Type 0} (nothing : A) (o : Outcome A) (w : ℕ) (v : A) : Type 0 where
+  pub word_is : w ≡ word o
+  pub value_is : v ≡ value_or nothing o
 
 unfoldable pub line_result : Outcome Line → LineResult
 line_result o = record { refusal = word o; value = value_or (record { x = 0; level = 0 }) o }

@@ -1,22 +1,21 @@
 // From an answer to what goes over the C interface: a refusal's word and the value beside it. `specs/Results.antt` says how.
-#![tactic(auto)]
+#![tactic(auto, unfolding(crate::specs::Results::line_result, crate::specs::Results::triangle_result, crate::specs::Results::prism_result, crate::specs::Results::number_result, crate::specs::Results::truth_result, crate::specs::Results::compare_result, crate::specs::Results::pass_result, crate::specs::Results::grid_result, crate::specs::Results::point_result))]
 
-ghost use Rattle.std.specs.Prelude.{◌≡◌, ◌+◌, ◌*◌, ◌%◌, ◌^◌};
-ghost use Rattle.paper.specs.Readings.{value_of, truth_of, comparison_of, pass_of};
-ghost use Rattle.corners.specs.CornerPoints.{point_of};
-ghost use Rattle.line.specs.Elements as lines;
-ghost use Rattle.triangle.specs.Elements as triangles;
-ghost use Rattle.prism.specs.Elements as prisms;
+ghost use Rattle.std.specs.Prelude.{◌≡◌};
+ghost use Rattle.paper.specs.Refusals.{outcome_of, ordering_of};
 ghost use Rattle.reader.specs.Answers.{grid_of};
-ghost use Rattle.results.specs.Results.{line_result, triangle_result, prism_result, number_result, truth_result, compare_result, pass_result, grid_result, point_result};
+ghost use Rattle.results.specs.Results as results;
+ghost use Rattle.results.specs.Results.{Told, line_result, triangle_result, prism_result, number_result, truth_result, compare_result, pass_result, grid_result, point_result};
 
-use corners::{Point, PointAnswer};
-use line::{Line, LineAnswer};
-use paper::{CompareAnswer, NumberAnswer, PassAnswer, TruthAnswer};
-use prism::{Prism, PrismAnswer};
-use reader::GridAnswer;
-use triangle::{Triangle, TriangleAnswer};
+use corners::Point;
+use line::Line;
+use paper::Refusal;
+use prism::Prism;
+use reader::Grid;
+use std::cmp::Ordering;
+use triangle::Triangle;
 
+// The results stay a struct for each value: a function over C has no type parameters.
 #[repr(C)]
 #[derive(Clone, Copy)]
 pub struct LineResult {
@@ -68,171 +67,133 @@ pub struct PointResult {
     pub value: Point,
 }
 
+// The word, and the value: on a refusal the one that stands for none.
+fn told<T: Copy>(a: Result<T, Refusal>, none: T) -> (u64, T)
+    ensures { Told none (outcome_of a) result.0 result.1 }
+{
+    match a {
+        Ok(value) => (0, value),
+        Err(refusal) => (word(refusal), none),
+    }
+}
+
 // The word of a refusal.
-fn word(number: u8, place: u64) -> u64
-    ensures { result ≡ place % 2 ^ 56 * 256 + number }
+fn word(refusal: Refusal) -> u64
+    ensures { result ≡ results.word (outcome_of {A = Unit {0}} (Err refusal)) }
 {
-    place % 72057594037927936 * 256 + number as u64
+    refusal.place() % 72057594037927936 * 256 + refusal.number() as u64
 }
 
-pub fn of_line(a: LineAnswer) -> LineResult
-    ensures { result ≡ line_result (lines.line_of a) }
-{
-    match a {
-        LineAnswer::Is(e) => LineResult {
-            refusal: 0,
-            value: e,
-        },
-        LineAnswer::Refused(number, place) => LineResult {
-            refusal: word(number, place),
-            value: Line { x: 0, level: 0 },
-        },
+impl From<Result<Line, Refusal>> for LineResult {
+    ghost from_gives = { λ a r. r ≡ line_result (outcome_of a) };
+
+    fn from(a: Result<Line, Refusal>) -> LineResult {
+        let (refusal, value) = told(a, Line { x: 0, level: 0 });
+        LineResult { refusal, value }
     }
 }
 
-pub fn of_triangle(a: TriangleAnswer) -> TriangleResult
-    ensures { result ≡ triangle_result (triangles.triangle_of a) }
-{
-    match a {
-        TriangleAnswer::Is(e) => TriangleResult {
-            refusal: 0,
-            value: e,
-        },
-        TriangleAnswer::Refused(number, place) => TriangleResult {
-            refusal: word(number, place),
-            value: Triangle {
-                x: 0,
-                y: 0,
-                level: 0,
-                kind: 0,
-            },
-        },
+impl From<Result<Triangle, Refusal>> for TriangleResult {
+    ghost from_gives = { λ a r. r ≡ triangle_result (outcome_of a) };
+
+    fn from(a: Result<Triangle, Refusal>) -> TriangleResult {
+        let none = Triangle {
+            x: 0,
+            y: 0,
+            level: 0,
+            kind: 0,
+        };
+        let (refusal, value) = told(a, none);
+        TriangleResult { refusal, value }
     }
 }
 
-pub fn of_prism(a: PrismAnswer) -> PrismResult
-    ensures { result ≡ prism_result (prisms.prism_of a) }
-{
-    match a {
-        PrismAnswer::Is(e) => PrismResult {
-            refusal: 0,
-            value: e,
-        },
-        PrismAnswer::Refused(number, place) => PrismResult {
-            refusal: word(number, place),
-            value: Prism {
-                x: 0,
-                y: 0,
-                z: 0,
-                level: 0,
-                kind: 0,
-            },
-        },
+impl From<Result<Prism, Refusal>> for PrismResult {
+    ghost from_gives = { λ a r. r ≡ prism_result (outcome_of a) };
+
+    fn from(a: Result<Prism, Refusal>) -> PrismResult {
+        let none = Prism {
+            x: 0,
+            y: 0,
+            z: 0,
+            level: 0,
+            kind: 0,
+        };
+        let (refusal, value) = told(a, none);
+        PrismResult { refusal, value }
     }
 }
 
-pub fn of_number(a: NumberAnswer) -> NumberResult
-    ensures { result ≡ number_result (value_of a) }
-{
-    match a {
-        NumberAnswer::Is(p) => NumberResult {
-            refusal: 0,
-            value: p,
-        },
-        NumberAnswer::Refused(number, place) => NumberResult {
-            refusal: word(number, place),
-            value: 0,
-        },
+impl From<Result<u64, Refusal>> for NumberResult {
+    ghost from_gives = { λ a r. r ≡ number_result (outcome_of a) };
+
+    fn from(a: Result<u64, Refusal>) -> NumberResult {
+        let (refusal, value) = told(a, 0);
+        NumberResult { refusal, value }
     }
 }
 
-pub fn of_truth(a: TruthAnswer) -> NumberResult
-    ensures { result ≡ truth_result (truth_of a) }
-{
-    match a {
-        TruthAnswer::Is(yes) => {
-            if yes {
-                return NumberResult {
-                    refusal: 0,
-                    value: 1,
-                };
-            }
-            NumberResult {
-                refusal: 0,
-                value: 0,
-            }
+// Yes is 1, no is 0.
+impl From<Result<bool, Refusal>> for NumberResult {
+    ghost from_gives = { λ a r. r ≡ truth_result (outcome_of a) };
+
+    fn from(a: Result<bool, Refusal>) -> NumberResult {
+        let (refusal, yes) = told(a, false);
+        NumberResult {
+            refusal,
+            value: yes as u64,
         }
-        TruthAnswer::Refused(number, place) => NumberResult {
-            refusal: word(number, place),
-            value: 0,
-        },
     }
 }
 
-pub fn of_comparison(a: CompareAnswer) -> CompareResult
-    ensures { result ≡ compare_result (comparison_of a) }
-{
-    match a {
-        CompareAnswer::Less => CompareResult {
-            refusal: 0,
-            value: -1,
-        },
-        CompareAnswer::Same => CompareResult {
-            refusal: 0,
-            value: 0,
-        },
-        CompareAnswer::Greater => CompareResult {
-            refusal: 0,
-            value: 1,
-        },
-        CompareAnswer::Refused(number, place) => CompareResult {
-            refusal: word(number, place),
-            value: 0,
-        },
+// Less is -1, equal 0, greater 1.
+impl From<Result<Ordering, Refusal>> for CompareResult {
+    ghost from_gives = { λ a r. r ≡ compare_result (ordering_of a) };
+
+    fn from(a: Result<Ordering, Refusal>) -> CompareResult {
+        let (refusal, order) = told(a, Ordering::Equal);
+        CompareResult {
+            refusal,
+            value: order as i32,
+        }
     }
 }
 
-pub fn of_pass(a: PassAnswer) -> u64
-    ensures { result ≡ pass_result (pass_of a) }
+// Of a call with no value: the word alone.
+pub fn of_pass(a: Result<(), Refusal>) -> u64
+    ensures { result ≡ pass_result (outcome_of a) }
 {
-    match a {
-        PassAnswer::Passed => 0,
-        PassAnswer::Refused(number, place) => word(number, place),
-    }
+    let (refusal, _none) = told(a, ());
+    refusal
 }
 
-pub fn of_grid(a: GridAnswer) -> GridResult
-    ensures { result ≡ grid_result (grid_of a) }
-{
-    match a {
-        GridAnswer::Is(roots, leaves) => GridResult {
-            refusal: 0,
-            roots: roots as u64,
-            leaves,
-        },
-        GridAnswer::Refused(number, place) => GridResult {
-            refusal: word(number, place),
+impl From<Result<Grid, Refusal>> for GridResult {
+    ghost from_gives = { λ a r. r ≡ grid_result (grid_of a) };
+
+    fn from(a: Result<Grid, Refusal>) -> GridResult {
+        let none = Grid {
             roots: 0,
             leaves: 0,
-        },
+        };
+        let (refusal, grid) = told(a, none);
+        GridResult {
+            refusal,
+            roots: grid.roots as u64,
+            leaves: grid.leaves,
+        }
     }
 }
 
-pub fn of_point(a: PointAnswer) -> PointResult
-    ensures { result ≡ point_result (point_of a) }
-{
-    match a {
-        PointAnswer::Is(p) => PointResult {
-            refusal: 0,
-            value: p,
-        },
-        PointAnswer::Refused(number, place) => PointResult {
-            refusal: word(number, place),
-            value: Point {
-                x: 0.0,
-                y: 0.0,
-                z: 0.0,
-            },
-        },
+impl From<Result<Point, Refusal>> for PointResult {
+    ghost from_gives = { λ a r. r ≡ point_result (outcome_of a) };
+
+    fn from(a: Result<Point, Refusal>) -> PointResult {
+        let none = Point {
+            x: 0.0,
+            y: 0.0,
+            z: 0.0,
+        };
+        let (refusal, value) = told(a, none);
+        PointResult { refusal, value }
     }
 }

@@ -6,7 +6,7 @@ use Prim.Native.Nat.{ℕ, ◌+◌, ◌*◌, ◌%◌, ◌≤◌, ◌<◌}
 use native.Mathlib.Nat.{mod-lt}
 use native.Mathlib.Omega.{arith}
 use lib.Dec.{lit<}
-use Rattle.tree.proofs.Cases.{below_2, below_3, below_4, below_5}
+use Rattle.tree.proofs.Cases.{below_2, below_3, below_4}
 use Rattle.rows.specs.declared.Step.{Step}
 use Rattle.rows.specs.Rows.{step, child_row, parent_kind, number_of, face_row}
 
@@ -19,12 +19,6 @@ each_child P a b c d e f g h t i kind small =
 pub each_face : (P : ℕ → ℕ → Type 0) → P 0 0 → P 0 1 → P 0 2 → P 1 0 → P 1 1 → P 1 2 → (t i : ℕ) → t < 2 → i < 3 → P t i
 each_face P a b c d e f t i kind small =
     below_2 (λ (k : ℕ). P k i) (below_3 (P 0) a b c i small) (below_3 (P 1) d e f i small) t kind
-
--- a statement about the two rows of five, entry by entry
-pub each_prism_face : (P : ℕ → ℕ → Type 0) → P 0 0 → P 0 1 → P 0 2 → P 0 3 → P 0 4 → P 1 0 → P 1 1 → P 1 2 → P 1 3 → P 1 4
-    → (t i : ℕ) → t < 2 → i < 5 → P t i
-each_prism_face P a b c d e f g h i j t n kind small =
-    below_2 (λ (k : ℕ). P k n) (below_5 (P 0) a b c d e n small) (below_5 (P 1) f g h i j n small) t kind
 
 -- a statement about the eight steps
 pub each_step : (P : ℕ → ℕ → ℕ → Type 0) → P 0 0 0 → P 0 0 1 → P 0 1 0 → P 0 1 1 → P 1 0 0 → P 1 0 1 → P 1 1 0 → P 1 1 1
@@ -89,5 +83,3 @@ face_row_small =
     each_face (λ (t i : ℕ). ((face_row t i).x < 3) × (((face_row t i).y < 3) × ((face_row t i).kind < 2))) (omega arith) (omega arith) (omega arith) (omega arith) (omega arith) (omega arith)
 
 -- ---- one step, from its parts
-pub step_path : (x x' y y' t t' : ℕ) → x ≡ x' → y ≡ y' → t ≡ t' → step x y t ≡ step x' y' t'
-step_path x x' y y' t t' p q r = λ i. step (p i) (q i) (r i)

@@ -2,13 +2,12 @@
 -- Assumes nothing.
 use mathlib.Core.Path.{◌≡◌, refl, ap, ap₂, ◌∙◌, subst}
 use mathlib.Core.List.{List}
-use Prim.Native.Nat.{ℕ, ◌+◌, ◌*◌, ◌/◌, ◌^◌, ◌≤◌, ◌<◌}
-use native.Mathlib.Nat.{mul-le-mul}
+use Prim.Native.Nat.{ℕ, ◌+◌, ◌*◌, ◌/◌, ◌≤◌, ◌<◌}
 use native.Mathlib.Omega.{arith}
 use lib.ListN.{length, set}
 use Rattle.paper.specs.Outcome.{rows}
 use Rattle.paper.specs.Memory.{written}
-use Rattle.paper.proofs.Front.{front_length, front_more}
+use Rattle.paper.proofs.Front.{front_more}
 use Rattle.shares.specs.Shares.{total, boundary, boundaries}
 use Rattle.shares.specs.Inner.{Within, Stopped}
 use Rattle.shares.proofs.Turns.{stopped_boundary, reached_on}
@@ -26,9 +25,6 @@ module _ (P W : ℕ) (ws column : List ℕ) where
       record { shares = omega arith; boundaries = refl; reached = record { within = omega arith; summed = refl; under = omega arith } }
 
 module _ {P W s count sum : ℕ} {ws column column' : List ℕ} (d : Divided P W ws column s column' count sum) (room : P < length column) where
-  pub divided_length : length column' ≡ length column
-  divided_length = ap length d.boundaries ∙ front_length (boundary P ws) column s (omega (arith, d.shares))
-
   pub divided_all : P < s → column' ≡ written (boundaries P ws) column
   divided_all past =
       let all : s ≡ P + 1 = omega (arith, d.shares) in
@@ -44,10 +40,3 @@ module _ {P W s count sum : ℕ} {ws column column' : List ℕ} (d : Divided P W
             ap₂ (λ (l : List ℕ) (j : ℕ). set l s j) d.boundaries here ∙ front_more (boundary P ws) column s (omega arith);
         reached = reached_on P some_share s W t.reached;
       }
-
--- ---- no product is too large
-pub parts_small : {P W N s : ℕ} → P ≤ 4096 → W ≤ 65535 * N → N ≤ 1048576 → s ≤ P → s * W < 2 ^ 48
-parts_small {W = W} {s = s} few weighs long inside =
-    let most : W ≤ 68718428160 = omega arith in
-    let least : s ≤ 4096 = omega arith in
-    omega (arith, mul-le-mul least most)

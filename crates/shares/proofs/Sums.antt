@@ -19,6 +19,11 @@ unfolding total
 total_append [] ys = omega arith
 total_append (x ∷ xs) ys = omega (arith, total_append xs ys)
 
+pub total_none : (ws : List ℕ) → length ws ≡ 0 → total ws ≡ 0
+unfolding total
+total_none [] none = refl
+total_none (w ∷ ws) none = absurd (omega arith)
+
 module _ (ws : List ℕ) where
   pub total_next : (j : ℕ) → j < length ws → total (take (j + 1) ws) ≡ total (take j ws) + get_or ws j 0
   unfolding total

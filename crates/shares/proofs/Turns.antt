@@ -1,6 +1,6 @@
--- The loops behind the call: one weight more is no fault, adds to the sum, and may pass the limit; where the next one passes the limit
+-- The loops behind the call: one weight more adds to the sum, and may pass the limit; where the next one passes the limit
 -- of a share, the count is that share's boundary. Assumes nothing.
-use mathlib.Core.Path.{◌≡◌, ap, ◌∙◌, sym}
+use mathlib.Core.Path.{◌≡◌, ap, sym}
 use mathlib.Core.Bool.{true}
 use mathlib.Core.List.{List}
 use Prim.Native.Nat.{ℕ, ◌+◌, ◌-◌, ◌*◌, ◌/◌, ◌≤◌, ◌<◌}
@@ -8,25 +8,12 @@ use native.Mathlib.Nat.{mul_comm, le-div_iff_mul-le}
 use native.Mathlib.Omega.{arith}
 use lib.Dec.{leb}
 use lib.ListN.{length, get_or, take, drop}
-use borrow.Author.Tests.{leb-true, le-leb, eq-eqb, ne_eqb}
-use Rattle.paper.specs.Outcome.{Outcome, refused, scan}
-use Rattle.paper.proofs.Scan.{entry_found, entry_next}
+use borrow.Author.Tests.{leb-true, le-leb}
 use Rattle.leaves.proofs.Span.{more_mul}
 use Rattle.shares.specs.Shares.{total, boundary}
-use Rattle.shares.specs.Calls.{weight_fault}
 use Rattle.shares.specs.Inner.{Within, Stopped}
 use Rattle.shares.proofs.Largest.{largest_is}
 use Rattle.shares.proofs.Sums.{total_next, total_part, total_rises}
-
--- ---- the first weight 0
-module _ {A : Type 0} (rest : Outcome A) (ws : List ℕ) (i : ℕ) (inside : i < length ws) where
-  pub weight_found : get_or ws i 0 ≡ 0 → scan weight_fault i (drop i ws) rest ≡ refused 16 i
-  weight_found none =
-      let is : weight_fault (get_or ws i 0) ≡ 16 = simp (eq-eqb (get_or ws i 0) 0 none) in
-      entry_found weight_fault rest ws 0 i inside (λ nothing. omega (arith, is, nothing)) ∙ ap (λ (number : ℕ). refused number i) is
-
-  pub weight_next : (get_or ws i 0 ≡ 0 → ⊥) → scan weight_fault i (drop i ws) rest ≡ scan weight_fault (i + 1) (drop (i + 1) ws) rest
-  weight_next some = entry_next weight_fault rest ws 0 i inside (simp (ne_eqb (get_or ws i 0) 0 some))
 
 -- ---- as far as the limit
 module _ {ws : List ℕ} {limit count sum : ℕ} where

@@ -9,10 +9,11 @@
 --
 -- Assumes nothing.
 use Rattle.std.specs.Prelude.{not, List, ℕ, ◌+◌, eqb, length}
+use Rattle.std.specs.declared.result.Result.{Result}
 use Rattle.paper.specs.Outcome.{Outcome, mapped, fault_when, scan}
 use Rattle.paper.specs.Memory.{written, room_for, Fulfils}
-use Rattle.paper.specs.Readings.{pass_of}
-use Rattle.paper.specs.declared.PassAnswer.{PassAnswer}
+use Rattle.paper.specs.Refusals.{outcome_of}
+use Rattle.paper.specs.declared.Refusal.{Refusal}
 use Rattle.tree.specs.Anchors.{HIGHEST}
 use Rattle.leaves.specs.Leaves.{CHILDREN, Columns, room}
 use Rattle.leaves.specs.Calls.{out_of_range, listed}
@@ -27,6 +28,6 @@ shares n L K P cs ws column =
     (scan weight_fault 0 ws
     (room_for (P + 1) (length column) (boundaries P ws)))
 
-abbrev pub Shared : ℕ → ℕ → PassAnswer → Columns → List ℕ → List ℕ → List ℕ → Type 0
+abbrev pub Shared : ℕ → ℕ → Result (Unit {0}) Refusal → Columns → List ℕ → List ℕ → List ℕ → Type 0
 Shared k p r cs ws column column' =
-    Fulfils pass_of (mapped (λ (boundaries : List ℕ). tt)) written (shares CHILDREN HIGHEST k p cs ws column) r column column'
+    Fulfils outcome_of (mapped (λ (boundaries : List ℕ). tt)) written (shares CHILDREN HIGHEST k p cs ws column) r column column'

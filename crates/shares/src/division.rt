@@ -2,13 +2,13 @@
 ghost use Rattle.std.specs.Prelude.{◌≡◌, false, ◌+◌, ◌*◌, ◌^◌, ◌≤◌, ◌<◌, length};
 ghost use Rattle.paper.specs.Outcome.{passed, checks};
 ghost use Rattle.paper.specs.Memory.{written};
-ghost use Rattle.paper.specs.Readings.{checks_of};
+ghost use Rattle.paper.specs.Refusals.{outcome_of};
 ghost use Rattle.leaves.specs.Calls as lists;
 ghost use Rattle.shares.specs.Shares as shares;
 ghost use Rattle.shares.specs.Calls.{weight_fault};
 ghost use Rattle.shares.specs.Inner.{Within, Stopped};
 
-use paper::Fault;
+use paper::Refusal;
 
 // How far a share goes: a leaf count, and the sum of the weights before it.
 #[derive(Clone, Copy)]
@@ -17,17 +17,14 @@ struct Reach {
     sum: u64,
 }
 
-// The first weight 0, as a fault 16 at its place. It is looked for only where there is one.
-pub(crate) fn zero_weight(weights: &[u16]) -> Fault
-    ensures { checks_of result ≡ checks weight_fault weights.now }
+// That no weight is 0. Refused: 16 at the first, which is looked for only where there is one.
+pub(crate) fn check_weights(weights: &[u16]) -> Result<(), Refusal>
+    ensures { outcome_of result ≡ checks weight_fault weights.now }
 {
     if any_zero(weights) {
         return first_zero(weights);
     }
-    Fault {
-        number: 0,
-        place: 0,
-    }
+    Ok(())
 }
 
 // Whether any weight is 0. It reads all of them: without a way out in between they go many at a time.
@@ -35,32 +32,22 @@ fn any_zero(weights: &[u16]) -> bool
     ensures { result ≡ false → checks weight_fault weights.now ≡ passed }
 {
     let mut any = false;
-    let mut i = 0;
-    while i < weights.len() {
-        any = any | (weights[i] == 0);
-        i += 1;
+    for weight in weights {
+        any = any | (*weight == 0);
     }
     any
 }
 
-// The first weight 0, one weight at a time.
-fn first_zero(weights: &[u16]) -> Fault
-    ensures { checks_of result ≡ checks weight_fault weights.now }
+// The first weight 0, one weight at a time, refused.
+fn first_zero(weights: &[u16]) -> Result<(), Refusal>
+    ensures { outcome_of result ≡ checks weight_fault weights.now }
 {
-    let mut i = 0;
-    while i < weights.len() {
-        if weights[i] == 0 {
-            return Fault {
-                number: 16,
-                place: i as u64,
-            };
+    for (i, weight) in weights.iter().enumerate() {
+        if *weight == 0 {
+            return Err(Refusal::NoWeight(i as u64));
         }
-        i += 1;
     }
-    Fault {
-        number: 0,
-        place: 0,
-    }
+    Ok(())
 }
 
 // The whole weight, part by part.
@@ -69,24 +56,10 @@ fn whole_weight(weights: &[u16]) -> u64
     ensures { (result ≡ shares.total weights.now) × (result ≤ 65535 * length weights.now) }
 {
     let mut sum = 0;
-    let mut count = 0;
-    while count < weights.len() {
-        let end = part_end(count, weights.len());
-        sum += part_weight(&weights[count..end]) as u64;
-        count = end;
+    for part in weights.chunks(65536) {
+        sum += part_weight(part) as u64;
     }
     sum
-}
-
-// Where the part that starts at a leaf count ends: 65,536 leaves on, or at the last.
-fn part_end(count: usize, all: usize) -> usize
-    requires { (count < all) × (all ≤ lists.limit) }
-    ensures { (count < result) × ((result ≤ all) × (result ≤ count + 65536)) }
-{
-    if all <= count + 65536 {
-        return all;
-    }
-    count + 65536
 }
 
 // The weight of a part, in half a word so that more weights are added at a time.
@@ -95,10 +68,8 @@ fn part_weight(weights: &[u16]) -> u32
     ensures { (result ≡ shares.total weights.now) × (result ≤ 65535 * length weights.now) }
 {
     let mut sum = 0;
-    let mut i = 0;
-    while i < weights.len() {
-        sum += weights[i] as u32;
-        i += 1;
+    for weight in weights {
+        sum += *weight as u32;
     }
     sum
 }
@@ -108,18 +79,18 @@ fn stride(weights: &[u16], from: Reach, limit: u64) -> Reach
     requires { (limit < 2 ^ 48) × Within weights.now limit from.count from.sum }
     ensures { Within weights.now limit result.count result.sum }
 {
-    let mut count = from.count;
-    let mut sum = from.sum;
-    while 16 <= weights.len() - count {
-        let end = count + 16;
-        let more = sum + part_weight(&weights[count..end]) as u64;
-        if limit < more {
-            return Reach { count, sum };
+    let mut at = from;
+    for part in weights[from.count..].chunks_exact(16) {
+        let sum = at.sum + part_weight(part) as u64;
+        if limit < sum {
+            return at;
         }
-        sum = more;
-        count = end;
+        at = Reach {
+            count: at.count + 16,
+            sum,
+        };
     }
-    Reach { count, sum }
+    at
 }
 
 // From a leaf count on, as far as the sum of the weights stays within the limit: in strides, then leaf by leaf.
@@ -128,17 +99,18 @@ fn advance(weights: &[u16], from: Reach, limit: u64) -> Reach
     ensures { Stopped weights.now limit result.count result.sum }
 {
     let near = stride(weights, from, limit);
-    let mut count = near.count;
     let mut sum = near.sum;
-    while count < weights.len() {
+    for count in near.count..weights.len() {
         let next = sum + weights[count] as u64;
         if limit < next {
             return Reach { count, sum };
         }
         sum = next;
-        count += 1;
     }
-    Reach { count, sum }
+    Reach {
+        count: weights.len(),
+        sum,
+    }
 }
 
 // The boundaries of p shares, from 0 to p: p times a sum is within s times the whole weight where the sum is within the limit of s.
@@ -148,12 +120,10 @@ pub(crate) fn divide(p: u16, weights: &[u16], boundaries: &mut [u32])
 {
     let whole = whole_weight(weights);
     let mut at = Reach { count: 0, sum: 0 };
-    let mut s = 0;
-    while s <= p as usize {
+    for s in 0..=p as usize {
         let parts = s as u64 * whole;
         let limit = parts / p as u64;
         at = advance(weights, at, limit);
         boundaries[s] = at.count as u32;
-        s += 1;
     }
 }

@@ -2,10 +2,10 @@
 // `specs/Calls.antt` at eight children and highest level 21.
 #![tactic(auto)]
 
-ghost use Rattle.leaves.specs.Leaves.{columns};
 ghost use Rattle.shares.specs.Calls.{Shared};
 
-use paper::PassAnswer;
+use leaves::LeafList;
+use paper::Refusal;
 
 mod division;
 
@@ -13,35 +13,23 @@ mod division;
 pub fn shares(
     k: u16,
     p: u16,
-    roots: &[u16],
-    levels: &[u8],
-    positions: &[u64],
+    list: &LeafList,
     weights: &[u16],
     boundaries: &mut [u32],
-) -> PassAnswer
-    ensures { Shared k p result (columns roots.now levels.now positions.now)
-        weights.now boundaries.old boundaries.new }
+) -> Result<(), Refusal>
+    ensures { Shared k p result list.now weights.now boundaries.old boundaries.new }
 {
-    if leaves::out_of_range(k) {
-        return PassAnswer::Refused(17, 0);
+    if leaves::out_of_range(k) || leaves::out_of_range(p) {
+        return Err(Refusal::OutOfRange(0));
     }
-    if leaves::out_of_range(p) {
-        return PassAnswer::Refused(17, 0);
+    if list.len() != weights.len() {
+        return Err(Refusal::UnfitColumns(0));
     }
-    if roots.len() != weights.len() {
-        return PassAnswer::Refused(11, 0);
-    }
-    let list = leaves::check_list(k, roots, levels, positions);
-    if let PassAnswer::Refused(number, place) = list {
-        return PassAnswer::Refused(number, place);
-    }
-    let fault = division::zero_weight(weights);
-    if fault.number != 0 {
-        return PassAnswer::Refused(fault.number, fault.place);
-    }
+    leaves::check_list(k, list)?;
+    division::check_weights(weights)?;
     if boundaries.len() < p as usize + 1 {
-        return PassAnswer::Refused(14, p as u64 + 1);
+        return Err(Refusal::NoRoom(p as u64 + 1));
     }
     division::divide(p, weights, boundaries);
-    PassAnswer::Passed
+    Ok(())
 }

@@ -1,16 +1,16 @@
 -- Twenty digits hold every number of the machine, so one digit more or less of room changes nothing. Assumes nothing.
-use mathlib.Core.Path.{◌≡◌, refl, ap, ◌∙◌, sym, subst⁻¹}
+use mathlib.Core.Path.{◌≡◌, refl, ap, ◌∙◌, sym}
 use mathlib.Core.Bool.{Bool, true, false}
 use mathlib.Core.List.{List, [], ◌∷◌, ◌++◌}
 use Prim.Native.Nat.{ℕ, zero, suc, ◌+◌, ◌/◌, ◌%◌, ◌^◌, ◌≤◌, ◌<◌}
 use native.Mathlib.Nat.{div-lt_iff_lt-mul, pow-suc}
 use native.Mathlib.Omega.{arith}
 use lib.Dec.{ltb}
-use lib.ListN.{length, set, length-append}
+use lib.ListN.{length, length-append}
 use borrow.Author.Tests.{lt-ltb, le-ltb, ltb-true, ltb-false}
 use Rattle.text.specs.Text.{decimal_in, decimal, counted, entry}
-use Rattle.text.specs.Inner.{Put}
-use Rattle.text.proofs.Writing.{put_byte, put_then}
+use Rattle.std.specs.Fmt.{decimal as text_of}
+use Rattle.std.proofs.lemmas.Fmt.{decimal_by_steps}
 
 -- one digit fewer
 pub tenth : (n k : ℕ) → n < 10 ^ suc k → n / 10 < 10 ^ k
@@ -81,15 +81,12 @@ digits_most (suc m) n = by_size (digits_most m (n / 10)) (ltb n 10) refl
 pub decimal_20 : (n : ℕ) → length (decimal n) ≤ 20
 decimal_20 n = digits_most 20 n
 
--- ---- put into a buffer
-module _ (n at : ℕ) (l l' : List ℕ) where
-  pub put_digit : n < 10 → l' ≡ set l at (48 + n) → Put (decimal n) at l l' (at + 1)
-  put_digit small stored = subst⁻¹ (λ (t : List ℕ). Put t at l l' (at + 1)) (decimal_small n small) (put_byte at (48 + n) l l' stored)
-
-  pub put_last : (m : List ℕ) (e : ℕ) → 10 ≤ n → n < 2 ^ 64 → Put (decimal (n / 10)) at l m e → l' ≡ set m e (48 + n % 10) → Put (decimal n) at l l' (e + 1)
-  put_last m e large word before stored =
-      subst⁻¹ (λ (t : List ℕ). Put t at l l' (e + 1)) (decimal_more n large word)
-      (put_then before (put_byte e (48 + n % 10) m l' stored))
+-- ---- std's digits are the same
+pub std_decimal : (n : ℕ) → n < 2 ^ 64 → text_of n ≡ decimal n
+std_decimal n word =
+    decimal_by_steps (λ (k : ℕ) (ds : List ℕ). k < 2 ^ 64 → ds ≡ decimal k) (λ k small fits. sym (decimal_small k small))
+    (λ k ds large before fits. ap (λ (es : List ℕ). es ++ ((48 + k % 10) ∷ [])) (before (omega arith)) ∙ sym (decimal_more k large fits))
+    n word word
 
 -- ---- how far a number and a word with its number may reach
 pub counted_few : (n b : ℕ) → length (counted n b) ≤ 21

@@ -23,8 +23,9 @@
 use Rattle.std.specs.Prelude.{cond, List, [], ◌∷◌, ◌++◌, map, ℕ, zero, suc, ◌+◌, ◌-◌, ◌/◌, ◌%◌, ltb, length}
 use Rattle.paper.specs.Outcome.{Outcome, accepted, refused, mapped, rows}
 use Rattle.paper.specs.Memory.{written, room_for, Fulfils}
-use Rattle.paper.specs.Readings.{value_of}
-use Rattle.paper.specs.declared.NumberAnswer.{NumberAnswer}
+use Rattle.std.specs.declared.result.Result.{Result}
+use Rattle.paper.specs.declared.Refusal.{Refusal}
+use Rattle.paper.specs.Refusals.{outcome_of}
 use Rattle.tree.specs.Anchors.{HIGHEST}
 use Rattle.leaves.specs.Leaves.{CHILDREN, Leaf, uniform_list}
 use Rattle.shares.specs.Shares.{boundary}
@@ -110,8 +111,8 @@ printed (refused number field) = refusal_line number field
 abbrev pub printing : List ℕ → ℕ → Outcome (List ℕ)
 printing t room = room_for (length t) room t
 
-abbrev pub Prints : List ℕ → NumberAnswer → List ℕ → List ℕ → Type 0
-Prints t r m m' = Fulfils value_of (mapped length) written (printing t (length m)) r m m'
+abbrev pub Prints : List ℕ → Result ℕ Refusal → List ℕ → List ℕ → Type 0
+Prints t r m m' = Fulfils outcome_of (mapped length) written (printing t (length m)) r m m'
 
 abbrev pub longest_output : ℕ
 longest_output = 86212

@@ -1,42 +1,14 @@
 -- One coordinate, one level down and up again. Counted in sides of its own level a coordinate is any number below 2^l; a step
 -- down doubles it and adds the step, so all that follows is arithmetic of 2 * u + i. Assumes nothing.
-use Rattle.std.proofs.Common.{◌≡◌, ℕ, suc, ◌+◌, ◌-◌, ◌*◌, ◌/◌, ◌%◌, ◌^◌, ◌<◌, ◌≤◌, Bool, true, false, not, eqb, leb, sym, refl, ap, ◌∙◌, subst, lt_of_le_of_lt, mul-le-mul_right, mod-lt, mod-eq_of_lt, mul_comm, div-lt_iff_lt-mul, add-sub_of_le, mul-lt-mul_of_pos_right, one-mul, pow-suc, div-add-mod', zero-mul, div-mul-le_self, mul-div_cancel, add-one, arith, pow_pos, pow_mono, pow-add, eq-eqb, ne_eqb, eqb-true, leb-false}
+use Rattle.std.proofs.Common.{◌≡◌, ℕ, suc, ◌+◌, ◌-◌, ◌*◌, ◌/◌, ◌%◌, ◌^◌, ◌<◌, ◌≤◌, false, not, eqb, leb, sym, ap, ◌∙◌, subst, mul-le-mul_right, mod-lt, mul_comm, div-lt_iff_lt-mul, add-sub_of_le, mul-lt-mul_of_pos_right, pow-suc, div-add-mod', zero-mul, mul-div_cancel, add-one, arith, pow_pos, pow_mono, pow-add, eqb-true, leb-false}
 use native.Mathlib.Nat.{mul-div-mul_right, mul-mod_left}
-use borrow.Author.Tests.{lt-leb, eqb-false, not-false}
+use borrow.Author.Tests.{lt-leb, not-false}
 use Rattle.paper.proofs.Tests.{or_none}
 use Rattle.tree.specs.Anchors.{side, off_grid, rounded, bit_at}
-
--- two tests for equality that hold together
-test_same : (a b c d : ℕ) → (a ≡ b → c ≡ d) → (c ≡ d → a ≡ b) → eqb a b ≡ eqb c d
-test_same a b c d to back = by (eqb a b) refl
-  where
-    by : (t : Bool) → eqb a b ≡ t → eqb a b ≡ eqb c d
-    by true e = e ∙ sym (eq-eqb c d (to (eqb-true a b e)))
-    by false e = e ∙ sym (ne_eqb c d (λ h. eqb-false a b e (back h)))
-
--- a shift there and back is the multiple at or below, in any word that holds the number
-pub shift_back : (x k w : ℕ) → x < w → x / 2 ^ k * 2 ^ k % w ≡ x / 2 ^ k * 2 ^ k
-shift_back x k w small = mod-eq_of_lt (lt_of_le_of_lt (div-mul-le_self x (2 ^ k)) small)
-
--- and it is the number itself exactly where nothing was left over
-pub rounded_test : (x h : ℕ) → eqb (x / h * h) x ≡ eqb (x % h) 0
-rounded_test x h =
-    test_same (x / h * h) x (x % h) 0
-    (λ e. omega (arith, div-add-mod' x h))
-    (λ e. omega (arith, div-add-mod' x h))
-
--- a shifted 1 is a power of two in any word that holds it
-pub shifted_one : (k w : ℕ) → 2 ^ k < w → 1 * 2 ^ k % w ≡ 2 ^ k
-shifted_one k w fits = ap (λ (m : ℕ). m % w) (one-mul (2 ^ k)) ∙ mod-eq_of_lt fits
 
 module _ (L : ℕ) where
   pub side_pos : (l : ℕ) → 0 < side L l
   side_pos l = pow_pos (L - l)
-
-  pub side_smallest : (l : ℕ) → L ≤ l → side L l ≡ 1
-  side_smallest l deep =
-      let none : L - l ≡ 0 = omega arith in
-      ap (λ (k : ℕ). 2 ^ k) none
 
   -- half the parent's side
   pub side_suc : (l : ℕ) → l < L → side L l ≡ 2 * side L (suc l)

@@ -1,8 +1,8 @@
 -- The ways out of each call, one law a case, in the paper's order: a function's proof cites the law of the `return` that it is at.
 -- Each follows from the tests that led there. Assumes nothing.
-use Rattle.std.proofs.Common.{◌≡◌, ℕ, ◌+◌, ◌^◌, ◌<◌, ◌≤◌, Bool, true, false, not, eqb, List, sym, ap, ◌∙◌, le-ltb, lt-ltb, eq-eqb, ne_eqb, le-leb}
+use Rattle.std.proofs.Common.{◌≡◌, ℕ, ◌+◌, ◌^◌, ◌<◌, ◌≤◌, Bool, true, List, sym, ap, ◌∙◌, le-ltb, lt-ltb, eq-eqb, ne_eqb, le-leb}
 use borrow.Author.Tests.{lt-leb}
-use Rattle.paper.specs.Outcome.{Outcome, accepted, passed, refused, checks, refuse_when_at}
+use Rattle.paper.specs.Outcome.{Outcome, accepted, passed, refused, checks}
 use Rattle.paper.proofs.Scan.{fault_taken, fault_none, scan_passed, scan_refused}
 use Rattle.tree.specs.Shape.{Shape}
 use Rattle.tree.specs.Laws.{Sound}
@@ -20,9 +20,6 @@ module _ {E : Type 0} (S : Shape E) where
 
   -- ---- element at a position
   module _ (l p : ℕ) where
-    pub at_refused_1 : S.highest < l → Calls.at S l p ≡ refused 1 0
-    at_refused_1 deep = simp (lt-ltb S.highest l deep)
-
     pub at_refused_5 : l ≤ S.highest → S.children ^ l ≤ p → Calls.at S l p ≡ refused 5 0
     at_refused_5 shallow beyond = simp (le-ltb S.highest l shallow, le-leb (S.children ^ l) p beyond)
 
@@ -34,19 +31,10 @@ module _ {E : Type 0} (S : Shape E) where
     pub position_accepted : Calls.position S e ≡ accepted (Words.position S e)
     position_accepted = checked_sound e _ sound
 
-    pub parent_refused_6 : S.level e ≡ 0 → Calls.parent S e ≡ refused 6 0
-    parent_refused_6 flat = checked_sound e _ sound ∙ simp (eq-eqb (S.level e) 0 flat)
-
     pub parent_accepted : (S.level e ≡ 0 → ⊥) → Calls.parent S e ≡ accepted (S.parent e)
     parent_accepted deep = checked_sound e _ sound ∙ simp (ne_eqb (S.level e) 0 deep)
 
     module _ (i : ℕ) where
-      pub child_refused_7 : S.highest ≤ S.level e → Calls.child S e i ≡ refused 7 0
-      child_refused_7 deep = checked_sound e _ sound ∙ simp (le-leb S.highest (S.level e) deep)
-
-      pub child_refused_8 : S.level e < S.highest → S.children ≤ i → Calls.child S e i ≡ refused 8 0
-      child_refused_8 room large = checked_sound e _ sound ∙ simp (lt-leb S.highest (S.level e) room, le-leb S.children i large)
-
       pub child_accepted : S.level e < S.highest → i < S.children → Calls.child S e i ≡ accepted (S.child e i)
       child_accepted room small = checked_sound e _ sound ∙ simp (lt-leb S.highest (S.level e) room, lt-leb S.children i small)
 
@@ -62,39 +50,24 @@ module _ {E : Type 0} (S : Shape E) where
       pub descendant_refused_1 : S.highest < l → Calls.descendant S which e l ≡ refused 1 0
       descendant_refused_1 deep = checked_sound e _ sound ∙ simp (lt-ltb S.highest l deep)
 
-      pub descendant_refused_6 : l ≤ S.highest → l < S.level e → Calls.descendant S which e l ≡ refused 6 0
-      descendant_refused_6 shallow up = checked_sound e _ sound ∙ simp (le-ltb S.highest l shallow, lt-ltb l (S.level e) up)
-
       pub descendant_accepted : l ≤ S.highest → S.level e ≤ l → Calls.descendant S which e l ≡ accepted (which e l)
       descendant_accepted shallow down = checked_sound e _ sound ∙ simp (le-ltb S.highest l shallow, le-ltb l (S.level e) down)
 
     -- ---- neighbour
-    pub neighbour_refused_8 : (i : ℕ) → S.faces ≤ i → Calls.neighbour S e i ≡ refused 8 0
-    neighbour_refused_8 i large = checked_sound e _ sound ∙ simp (le-leb S.faces i large)
 
     pub neighbour_across : (i : ℕ) → i < S.faces → Calls.neighbour S e i ≡ S.neighbour e i
     neighbour_across i small = checked_sound e _ sound ∙ simp (lt-leb S.faces i small)
 
   -- ---- order of two
-  pub order_faulty : (number : ℕ) (e f : E) → number ≡ S.fault e → (number ≡ 0 → ⊥) → refused number 0 ≡ Calls.order S e f
-  order_faulty number e f found some = faulty number e _ found some
-
-  pub order_second : (number : ℕ) (e f : E) → Sound S e → number ≡ S.fault f → (number ≡ 0 → ⊥) → refused number 1 ≡ Calls.order S e f
-  order_second number e f sound found some =
-      ap (λ (k : ℕ). refused k 1) found
-      ∙ sym (fault_none (S.fault e) 0 _ sound ∙ fault_taken (S.fault f) 1 _ (λ none. some (found ∙ none)))
 
   pub order_accepted : (e f : E) → Sound S e → Sound S f → Calls.order S e f ≡ accepted (Words.order S e f)
   order_accepted e f se sf = fault_none (S.fault e) 0 _ se ∙ fault_none (S.fault f) 1 _ sf
 
   -- ---- family: equal says whether the columns are equally long
-  pub family_refused_11 : (equal : Bool) (es : List E) → equal ≡ false → Calls.family S equal es ≡ refused 11 0
-  family_refused_11 equal es h = simp h
 
-  pub family_faulty : (equal : Bool) (es : List E) (number place : ℕ) → equal ≡ true → (number ≡ 0 → ⊥)
-      → refuse_when_at (not (eqb number 0)) number place passed ≡ checks S.fault es → Calls.family S equal es ≡ refused number place
-  family_faulty equal es number place h some found =
-      simp h (scan_refused S.fault 0 number place es _ (sym found ∙ fault_taken number place passed some))
+  pub family_refused : (equal : Bool) (es : List E) (number place : ℕ) → equal ≡ true → checks S.fault es ≡ refused number place
+      → Calls.family S equal es ≡ refused number place
+  family_refused equal es number place h found = simp h (scan_refused S.fault 0 number place es _ found)
 
   pub family_accepted : (equal : Bool) (es : List E) → equal ≡ true → checks S.fault es ≡ passed → Calls.family S equal es ≡ accepted (Words.family S es)
   family_accepted equal es h clean = simp h (scan_passed S.fault 0 es _ clean)

@@ -17,3 +17,4 @@ pub mod CallLaws
 pub mod Faces
 pub mod Apart
 pub mod SameMembers
+pub mod Stated

@@ -6,3 +6,4 @@ pub mod Laws
 pub mod Ancestors
 pub mod Descendants
 pub mod CallLaws
+pub mod Stated

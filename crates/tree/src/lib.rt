@@ -2,13 +2,16 @@
 #![tactic(auto)]
 
 ghost use Rattle.std.specs.Prelude.{◌≡◌, if◌then◌else◌};
-ghost use Rattle.paper.specs.Outcome.{accepted, same};
-ghost use Rattle.paper.specs.Readings.{comparison_of};
+ghost use Rattle.paper.specs.Outcome.{same};
+ghost use Rattle.paper.specs.Refusals.{order_of};
 ghost use Rattle.tree.specs.Anchors as anchors;
 ghost use Rattle.tree.specs.Anchors.{HIGHEST, off_grid, bit_at, off_edge};
 ghost use Rattle.tree.specs.Words.{compared};
 
-use paper::CompareAnswer;
+use std::cmp::Ordering;
+
+pub mod columns;
+pub mod element;
 
 // The highest level of every shape, and the edge of the root: 2^HIGHEST.
 pub const HIGHEST: u8 = 21;
@@ -57,37 +60,22 @@ pub fn off_grid(level: u8, x: u32) -> bool
     rounded(level, x) != x
 }
 
-// The answer of `moved` where the coordinate leaves the edge: no anchor is as large.
-pub const GONE: u32 = 4294967295;
-
-// A coordinate moved by step - 1 sides of length h, or GONE where that leaves the root's edge.
-pub fn moved(x: u32, step: u8, h: u32) -> u32
-    ensures { result ≡ (if off_edge HIGHEST h step x then 4294967295 else anchors.moved h step x) }
+// A coordinate moved by step - 1 sides of length h, unless that leaves the root's edge.
+pub fn moved(x: u32, step: u8, h: u32) -> Option<u32>
+    ensures { result ≡ (if off_edge HIGHEST h step x then None else Some (anchors.moved h step x)) }
 {
     let far = x as u64 + step as u64 * h as u64;
     // Below 0 it wraps, past every edge.
     let to = std::num::wrapping_sub_u64(far, h as u64);
     if (EDGE as u64) <= to {
-        return GONE;
+        return None;
     }
-    to as u32
+    Some(to as u32)
 }
 
 // The order of two elements by where their first descendants of the highest level stand, then by level.
-pub fn order(first: u64, level: u8, second: u64, other: u8) -> CompareAnswer
-    ensures { comparison_of result ≡ accepted (compared first second (compared level other same)) }
+pub fn order(first: u64, level: u8, second: u64, other: u8) -> Ordering
+    ensures { order_of result ≡ compared first second (compared level other same) }
 {
-    if first < second {
-        return CompareAnswer::Less;
-    }
-    if second < first {
-        return CompareAnswer::Greater;
-    }
-    if level < other {
-        return CompareAnswer::Less;
-    }
-    if other < level {
-        return CompareAnswer::Greater;
-    }
-    CompareAnswer::Same
+    first.cmp(&second).then(level.cmp(&other))
 }

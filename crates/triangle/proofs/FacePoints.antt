@@ -13,7 +13,7 @@ use Rattle.rows.specs.Rows.{face_row}
 use Rattle.rows.proofs.Tables.{each_face}
 use Rattle.triangle.specs.declared.Triangle.{Triangle}
 use Rattle.triangle.specs.Points.{Point, point, face_points}
-use Rattle.triangle.proofs.Laws.{Known, triangle_path}
+use Rattle.triangle.specs.Lawful.{Known, triangle_path}
 
 pair_path : {a b c d a' b' c' d' : ℕ} → a ≡ a' → b ≡ b' → c ≡ c' → d ≡ d' → ◌≡◌ {A = List Point} (point a b ∷ point c d ∷ []) (point a' b' ∷ point c' d' ∷ [])
 pair_path p q r s = λ j. point (p j) (q j) ∷ point (r j) (s j) ∷ []

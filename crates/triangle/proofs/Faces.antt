@@ -20,7 +20,7 @@ use Rattle.rows.specs.Rows.{step, face_row}
 use Rattle.triangle.specs.Elements.{triangle_to, inside_root, across_by, neighbour}
 use Rattle.triangle.specs.Points.{face_points, face_across}
 use Rattle.rows.proofs.Tables.{each_face, face_row_small}
-use Rattle.triangle.proofs.Laws.{Known, known, sound, triangle_path}
+use Rattle.triangle.specs.Lawful.{Known, known, sound, triangle_path}
 use Rattle.triangle.proofs.FacePoints.{Agree, agree, meeting, meets, itself, slope, sloping, numbered}
 use Rattle.triangle.proofs.SamePoints.{same_points}
 

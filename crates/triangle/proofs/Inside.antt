@@ -17,7 +17,7 @@ use Rattle.rows.proofs.Tables.{each_face}
 use Rattle.triangle.specs.declared.Triangle.{Triangle}
 use Rattle.triangle.specs.Elements.{triangle_to, fault, inside_root}
 use Rattle.triangle.specs.Points.{corner, InRoot, OnGrid, Refusal4}
-use Rattle.triangle.proofs.Laws.{Known, known, sound, known_units}
+use Rattle.triangle.specs.Lawful.{Known, known, sound, known_units}
 
 -- ---- four checks in turn, of which the last alone is refused 4
 abbrev pub fourth : Bool → ℕ

@@ -1,4 +1,3 @@
-pub mod Laws
 pub mod Units
 pub mod Across
 pub mod Loops

@@ -16,7 +16,7 @@ use Rattle.triangle.specs.declared.Triangle.{Triangle}
 use Rattle.rows.specs.Rows.{step, child_row, slot_of, parent_kind, number_of}
 use Rattle.triangle.specs.Elements.{triangle, triangle_to}
 use Rattle.rows.proofs.Tables.{child_row_small, parent_kind_lt, number_of_lt}
-use Rattle.triangle.proofs.Laws.{triangle_path, Known}
+use Rattle.triangle.specs.Lawful.{triangle_path, Known}
 use Rattle.triangle.proofs.Units.{unit, unit_self, unit_child, unit_parent, unit_number}
 
 binary : triangle.children ≡ 2 ^ 2

@@ -11,7 +11,7 @@ use Rattle.rows.specs.declared.Step.{Step}
 use Rattle.triangle.specs.declared.Triangle.{Triangle}
 use Rattle.rows.specs.Rows.{step, child_row, parent_kind, number_of}
 use Rattle.triangle.specs.Elements.{triangle_to, step_to, child, parent, number}
-use Rattle.triangle.proofs.Laws.{triangle_path, Known}
+use Rattle.triangle.specs.Lawful.{triangle_path, Known}
 
 -- the first and the last child keep their parent's type, and stand at its two ends
 child_row_first : (t : ℕ) → t < 2 → child_row t 0 ≡ step 0 0 t

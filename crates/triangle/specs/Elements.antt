@@ -6,17 +6,14 @@
 --   CHILDREN, FACES, CORNERS   "children .. 4 ..; faces .. 3 ..; corners .. 3"
 --   triangle_to L  triangles as a shape, highest level L
 --   triangle       "highest level 21 for all three"
---   triangle_of    the outcome that a TriangleAnswer stands for
 --
 -- Not here: several in lent columns (`Columns.antt`). Assumes nothing.
 use Rattle.std.specs.Prelude.{Bool, not, ◌&&◌, ◌||◌, ℕ, zero, suc, ◌+◌, ◌-◌, ◌*◌, leb, ltb, eqb}
-use Rattle.paper.specs.Outcome.{Outcome, accepted, refused, refuse_when, fault_when}
+use Rattle.paper.specs.Outcome.{Outcome, accepted, refuse_when, fault_when}
 use Rattle.tree.specs.Shape.{Shape}
 use Rattle.tree.specs.Anchors.{HIGHEST, side, off_grid, rounded, bit_at, moved, off_edge}
 use Rattle.rows.specs.declared.Step.{Step}
 use Rattle.triangle.specs.declared.Triangle.{Triangle}
-use Rattle.triangle.specs.declared.TriangleAnswer.{TriangleAnswer}
-use Rattle.triangle.specs.declared.TriangleAnswer.TheVariants.{Is, Refused}
 use Rattle.rows.specs.Rows.{step, child_row, parent_kind, number_of, face_row}
 
 abbrev pub CHILDREN : ℕ
@@ -101,7 +98,3 @@ module _ (L : ℕ) where
 
 abbrev pub triangle : Shape Triangle
 triangle = triangle_to HIGHEST
-
-abbrev pub triangle_of : TriangleAnswer → Outcome Triangle
-triangle_of (Is e) = accepted e
-triangle_of (Refused number place) = refused number place

@@ -1,4 +1,4 @@
 pub mod Elements
 pub mod Columns
-pub mod Inner
 pub mod Points
+pub mod Lawful

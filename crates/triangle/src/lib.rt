@@ -1,34 +1,25 @@
-// Triangles: the ground plan of a prism. Each contract is one of the ten calls of `tree`, at this shape; `specs/Elements.antt`
-// says what a triangle is.
-#![tactic(auto)]
+// Triangles: the ground plan of a prism. The ten calls are those of `tree::element`, at this shape; `specs/Elements.antt` says what a
+// triangle is.
+#![tactic(auto, unfolding(crate::specs::Elements::triangle_to))]
 
-ghost use Rattle.std.specs.Prelude.{◌≡◌, not, ◌<◌};
-ghost use Rattle.paper.specs.Readings.{value_of, truth_of, comparison_of};
-ghost use Rattle.tree.specs.Calls;
-ghost use Rattle.triangle.specs.Elements.{triangle, triangle_of, inside_root};
-ghost use Rattle.triangle.specs.Columns.{columns, family};
+ghost use Rattle.std.specs.Prelude.{◌≡◌, not, length};
+ghost use Rattle.triangle.specs.Elements.{triangle, inside_root};
+ghost use Rattle.triangle.specs.Columns as lent;
+ghost use Rattle.triangle.specs.Lawful.{lawful_triangle, same_triangle, states_triangle};
 
-use paper::{CompareAnswer, NumberAnswer, TruthAnswer};
+use paper::Refusal;
 use tree::HIGHEST;
-
-mod family;
-mod work;
+use tree::columns::Columns;
+use tree::element::Element;
 
 #[repr(C)]
-#[derive(Clone, Copy)]
+#[derive(Clone, Copy, Debug, PartialEq, Eq)]
 pub struct Triangle {
     pub x: u32,
     pub y: u32,
     pub level: u8,
     // The type: `type` is a word of the language.
     pub kind: u8,
-}
-
-// A triangle, or the refusal's number and place.
-#[derive(Clone, Copy)]
-pub enum TriangleAnswer {
-    Is(Triangle),
-    Refused(u8, u64),
 }
 
 // Whether an anchor lies outside the root, by type.
@@ -38,170 +29,189 @@ pub fn outside(kind: u8, x: u32, y: u32) -> bool
     (x as u64) < y as u64 + (kind != 0) as u64
 }
 
-impl Triangle {
-    pub const CHILDREN: u8 = 4;
+impl Element for Triangle {
+    ghost shape = { triangle };
 
-    pub const FACES: u8 = 3;
+    const BITS: u8 = 2;
 
-    pub const CORNERS: u8 = 3;
+    const CHILDREN: u8 = 4;
 
-    // The element of a level at a position. Refused: 1, 5.
-    pub fn at(level: u8, position: u64) -> TriangleAnswer
-        ensures { triangle_of result ≡ Calls.at triangle level position }
-    {
-        if HIGHEST < level {
-            return TriangleAnswer::Refused(1, 0);
-        }
-        if 1u64 << (2 * level) <= position {
-            return TriangleAnswer::Refused(5, 0);
-        }
-        TriangleAnswer::Is(work::placed(level, position))
+    const FACES: u8 = 3;
+
+    const CORNERS: u8 = 3;
+
+    ghost BITS = { 2 };
+
+    ghost CHILDREN = { 4 };
+
+    ghost FACES = { 3 };
+
+    ghost CORNERS = { 3 };
+
+    ghost lawful = { lawful_triangle };
+
+    ghost states = { states_triangle };
+
+    ghost same = { same_triangle };
+
+    fn level(self) -> u8 {
+        self.level
     }
 
-    // The position of an element. Refused: 1, 2, 3, 4.
-    pub fn position(self) -> NumberAnswer
-        ensures { value_of result ≡ Calls.position triangle self }
-    {
-        let fault = self.fault();
-        if fault != 0 {
-            return NumberAnswer::Refused(fault, 0);
+    // 1, 2, 3, 4
+    fn check(self, place: u64) -> Result<(), Refusal> {
+        if HIGHEST < self.level {
+            return Err(Refusal::LevelTooHigh(place));
         }
-        NumberAnswer::Is(self.rank())
+        if tree::off_grid(self.level, self.x) {
+            return Err(Refusal::OffGrid(place));
+        }
+        if tree::off_grid(self.level, self.y) {
+            return Err(Refusal::OffGrid(place));
+        }
+        if 1 < self.kind {
+            return Err(Refusal::NoType(place));
+        }
+        if outside(self.kind, self.x, self.y) {
+            return Err(Refusal::OutsideRoot(place));
+        }
+        Ok(())
     }
 
-    // The element that this one is a child of. Refused: 1, 2, 3, 4, 6.
-    pub fn parent(self) -> TriangleAnswer
-        ensures { triangle_of result ≡ Calls.parent triangle self }
-    {
-        let fault = self.fault();
-        if fault != 0 {
-            return TriangleAnswer::Refused(fault, 0);
+    // Down from the root, one digit a level, in units of the side.
+    fn placed(level: u8, position: u64) -> Triangle {
+        let mut x = 0u32;
+        let mut y = 0u32;
+        let mut kind = 0u8;
+        for left in (0..level).rev() {
+            let s = rows::child_row(kind, ((position >> (2 * left)) % 4) as u8);
+            x = 2 * x + s.x as u32;
+            y = 2 * y + s.y as u32;
+            kind = s.kind;
         }
-        if self.level == 0 {
-            return TriangleAnswer::Refused(6, 0);
+        let s = HIGHEST - level;
+        Triangle {
+            x: x << s,
+            y: y << s,
+            level,
+            kind,
         }
-        TriangleAnswer::Is(self.up())
     }
 
-    // A child by its number. Refused: 1, 2, 3, 4, 7, 8.
-    pub fn child(self, number: u8) -> TriangleAnswer
-        ensures { triangle_of result ≡ Calls.child triangle self number }
-    {
-        let fault = self.fault();
-        if fault != 0 {
-            return TriangleAnswer::Refused(fault, 0);
-        }
-        if HIGHEST <= self.level {
-            return TriangleAnswer::Refused(7, 0);
-        }
-        if Self::CHILDREN <= number {
-            return TriangleAnswer::Refused(8, 0);
-        }
-        TriangleAnswer::Is(self.down(number))
-    }
-
-    // The next element of the level. Refused: 1, 2, 3, 4, 9.
-    pub fn successor(self) -> TriangleAnswer
-        ensures { triangle_of result ≡ Calls.successor triangle self }
-    {
-        let fault = self.fault();
-        if fault != 0 {
-            return TriangleAnswer::Refused(fault, 0);
-        }
-        let next = self.rank() + 1;
+    // Up the ancestors, one digit a level, the lowest first: in units of its side an anchor's last bit is the step's.
+    fn rank(self) -> u64 {
         let level = self.level;
-        if next == 1u64 << (2 * level) {
-            return TriangleAnswer::Refused(9, 0);
+        let s = HIGHEST - level;
+        let mut x = self.x >> s;
+        let mut y = self.y >> s;
+        let mut kind = self.kind;
+        let mut sum = 0u64;
+        for i in 0..level {
+            let p = rows::slot_of(x, y, kind);
+            sum += (p.number as u64) << (2 * i);
+            x /= 2;
+            y /= 2;
+            kind = p.kind;
         }
-        TriangleAnswer::Is(work::placed(level, next))
+        sum
     }
 
-    // The first descendant at a level. Refused: 1, 2, 3, 4, then 1, 6 for the level.
-    pub fn first_descendant(self, level: u8) -> TriangleAnswer
-        ensures { triangle_of result ≡ Calls.first triangle self level }
-    {
-        let fault = self.fault();
-        if fault != 0 {
-            return TriangleAnswer::Refused(fault, 0);
+    fn up(self) -> Triangle {
+        let level = self.level - 1;
+        let p = rows::slot_of(
+            tree::bit(self.level, self.x),
+            tree::bit(self.level, self.y),
+            self.kind,
+        );
+        Triangle {
+            x: tree::rounded(level, self.x),
+            y: tree::rounded(level, self.y),
+            level,
+            kind: p.kind,
         }
-        if HIGHEST < level {
-            return TriangleAnswer::Refused(1, 0);
+    }
+
+    fn down(self, number: u8) -> Triangle {
+        let level = self.level + 1;
+        let h = tree::side(level);
+        let s = rows::child_row(self.kind, number);
+        Triangle {
+            x: self.x + (s.x as u32) * h,
+            y: self.y + (s.y as u32) * h,
+            level,
+            kind: s.kind,
         }
-        if level < self.level {
-            return TriangleAnswer::Refused(6, 0);
-        }
-        TriangleAnswer::Is(Triangle {
-            x: self.x,
-            y: self.y,
+    }
+
+    fn top(self, level: u8) -> Triangle {
+        Triangle { level, ..self }
+    }
+
+    fn bottom(self, level: u8) -> Triangle {
+        let d = tree::side(self.level) - tree::side(level);
+        Triangle {
+            x: self.x + d,
+            y: self.y + d,
             level,
             kind: self.kind,
+        }
+    }
+
+    fn across(self, face: u8) -> Result<Triangle, Refusal> {
+        let h = tree::side(self.level);
+        let s = rows::face_row(self.kind, face);
+        let Some(x) = tree::moved(self.x, s.x, h) else {
+            return Err(Refusal::NoNeighbour(0));
+        };
+        let Some(y) = tree::moved(self.y, s.y, h) else {
+            return Err(Refusal::NoNeighbour(0));
+        };
+        let kind = s.kind;
+        if outside(kind, x, y) {
+            return Err(Refusal::NoNeighbour(0));
+        }
+        Ok(Triangle {
+            x,
+            y,
+            level: self.level,
+            kind,
         })
     }
+}
 
-    // The last descendant at a level. Refused: 1, 2, 3, 4, then 1, 6 for the level.
-    pub fn last_descendant(self, level: u8) -> TriangleAnswer
-        ensures { triangle_of result ≡ Calls.last triangle self level }
-    {
-        let fault = self.fault();
-        if fault != 0 {
-            return TriangleAnswer::Refused(fault, 0);
-        }
-        if HIGHEST < level {
-            return TriangleAnswer::Refused(1, 0);
-        }
-        if level < self.level {
-            return TriangleAnswer::Refused(6, 0);
-        }
-        TriangleAnswer::Is(self.bottom(level))
+// Several triangles in lent columns.
+#[derive(Clone, Copy)]
+pub struct Triangles<'a> {
+    pub xs: &'a [u32],
+    pub ys: &'a [u32],
+    pub levels: &'a [u8],
+    pub kinds: &'a [u8],
+}
+
+impl Columns for Triangles<'_> {
+    type Row = Triangle;
+
+    ghost equal = { λ c. lent.equal_columns (lent.columns c.xs.now c.ys.now c.levels.now c.kinds.now) };
+
+    ghost count = { λ c. length c.xs.now };
+
+    ghost entry = { λ c i. lent.element (lent.columns c.xs.now c.ys.now c.levels.now c.kinds.now) i };
+
+    fn are_equal(self) -> bool {
+        let n = self.xs.len();
+        n == self.ys.len() && n == self.levels.len() && n == self.kinds.len()
     }
 
-    // The element across a face. Refused: 1, 2, 3, 4, 8, 10.
-    pub fn neighbour(self, face: u8) -> TriangleAnswer
-        ensures { triangle_of result ≡ Calls.neighbour triangle self face }
-    {
-        let fault = self.fault();
-        if fault != 0 {
-            return TriangleAnswer::Refused(fault, 0);
-        }
-        if Self::FACES <= face {
-            return TriangleAnswer::Refused(8, 0);
-        }
-        self.across(face)
+    fn len(self) -> usize {
+        self.xs.len()
     }
 
-    // The order of two elements. Refused: 1, 2, 3, 4, at place 0 or 1.
-    pub fn compare(self, other: Triangle) -> CompareAnswer
-        ensures { comparison_of result ≡ Calls.order triangle self other }
-    {
-        let fault = self.fault();
-        if fault != 0 {
-            return CompareAnswer::Refused(fault, 0);
+    fn row(self, i: usize) -> Triangle {
+        Triangle {
+            x: self.xs[i],
+            y: self.ys[i],
+            level: self.levels[i],
+            kind: self.kinds[i],
         }
-        let second = other.fault();
-        if second != 0 {
-            return CompareAnswer::Refused(second, 1);
-        }
-        tree::order(self.start(), self.level, other.start(), other.level)
-    }
-
-    // Whether the elements of the columns are all children of one parent, in order. Refused: 11, then 1, 2, 3, 4 at each element's
-    // index.
-    pub fn family(xs: &[u32], ys: &[u32], levels: &[u8], kinds: &[u8]) -> TruthAnswer
-        ensures { truth_of result ≡ family (columns xs.now ys.now levels.now kinds.now) }
-    {
-        if xs.len() != ys.len() {
-            return TruthAnswer::Refused(11, 0);
-        }
-        if xs.len() != levels.len() {
-            return TruthAnswer::Refused(11, 0);
-        }
-        if xs.len() != kinds.len() {
-            return TruthAnswer::Refused(11, 0);
-        }
-        let fault = family::first_fault(xs, ys, levels, kinds);
-        if fault.number != 0 {
-            return TruthAnswer::Refused(fault.number, fault.place);
-        }
-        TruthAnswer::Is(family::are_siblings(xs, ys, levels, kinds))
     }
 }

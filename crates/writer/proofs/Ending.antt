@@ -1,43 +1,58 @@
--- Leaves of one level stay of one level while each leaf more, or each block of leaves more, is of it. Assumes nothing.
-use mathlib.Core.Path.{◌≡◌, ap, ◌∙◌}
-use mathlib.Core.Bool.{Bool, true, false}
-use mathlib.Core.List.{List}
-use Prim.Native.Nat.{ℕ, ◌+◌, ◌-◌, ◌≤◌, ◌<◌}
+-- How long a run is that some levels begin with: blocks of its level, and then its levels one by one. Assumes nothing.
+use mathlib.Core.Path.{◌≡◌, refl, ap, ◌∙◌, sym}
+use mathlib.Core.Bool.{true, not, cond}
+use mathlib.Core.List.{List, [], ◌∷◌, ◌++◌}
+use Prim.Native.Nat.{ℕ, suc, ◌+◌, ◌-◌, ◌<◌}
+use native.Mathlib.Nat.{zero-add}
 use native.Mathlib.Decide.{dec_lt}
 use native.Mathlib.Omega.{arith}
-use lib.ListN.{length, get_or}
-use Rattle.writer.specs.Inner.{OneLevel, Alike}
+use lib.Dec.{ltb, eqb}
+use lib.ListN.{length, get_or, take, drop, length-append}
+use borrow.Author.Tests.{lt-ltb, le-ltb, eq-eqb}
+use Rattle.std.proofs.Common.{append_assoc, take-append-drop, Option, Some, None}
+use Rattle.std.proofs.lemmas.List.{get_or_append_left, get_or-append_right}
+use Rattle.std.proofs.lemmas.List.Sums.{prefix_len-le-length}
+use Rattle.std.specs.List.{position_or_len}
+use Rattle.std.specs.Option.{unwrap_or}
+use Rattle.writer.specs.Inner.{OneLevel, Begins, other}
 
--- ---- the end of a run, leaf by leaf
-module _ (ls : List ℕ) (i : ℕ) where
-  pub alike_one : i < length ls → Alike ls i (i + 1)
-  alike_one inside = record { some = omega arith; within = omega arith; same = λ t from upto. ap (λ (k : ℕ). get_or ls k 0) (omega arith) }
+both_levels : (l : ℕ) (xs ys : List ℕ) → OneLevel xs l → OneLevel ys l → OneLevel (xs ++ ys) l
+both_levels l xs ys one two t below = by (dec_lt t (length xs))
+  where
+    by : Dec (t < length xs) → get_or (xs ++ ys) t 0 ≡ l
+    by (yes first) = get_or_append_left xs ys 0 t first ∙ one t first
+    by (no later) =
+        get_or-append_right xs ys (length xs) t 0 refl (omega arith) ∙ two (t - length xs) (omega (arith, length-append xs ys))
 
-  module _ (j : ℕ) (a : Alike ls i j) where
-    pub alike_more : (n : ℕ) → j + n ≤ length ls → OneLevel ls (get_or ls i 0) j n → Alike ls i (j + n)
-    alike_more n inside level = record { some = omega (arith, a.some); within = inside; same = λ t from upto. by t from upto (dec_lt t j) }
-      where
-        by : (t : ℕ) → i ≤ t → t < j + n → Dec (t < j) → get_or ls t 0 ≡ get_or ls i 0
-        by t from upto (yes before) = a.same t from before
-        by t from upto (no past) =
-            let there : t ≡ j + (t - j) = omega arith in
-            ap (λ (k : ℕ). get_or ls k 0) there ∙ level (t - j) (omega arith)
+pub begins_more : (l : ℕ) (ls rest : List ℕ) → Begins l ls rest → (n : ℕ) → OneLevel (take n rest) l → Begins l ls (drop n rest)
+begins_more l ls rest b n level =
+    record {
+      front = b.front ++ take n rest;
+      all = b.all ∙ ap (λ (xs : List ℕ). b.front ++ xs) (sym (take-append-drop n rest)) ∙ sym (append_assoc b.front (take n rest) (drop n rest));
+      level = both_levels l b.front (take n rest) b.level level;
+    }
 
-    pub alike_next : j < length ls → get_or ls j 0 ≡ get_or ls i 0 → Alike ls i (j + 1)
-    alike_next inside level = alike_more 1 (omega arith) one
-      where
-        one : OneLevel ls (get_or ls i 0) j 1
-        one t first = let there : j + t ≡ j = omega arith in ap (λ (k : ℕ). get_or ls k 0) there ∙ level
+pub found_or_all : (xs : List ℕ) (l : ℕ) (r : Option ℕ) → r ≡ cond (ltb (position_or_len (other l) xs) (length xs)) (Some (position_or_len (other l) xs)) None
+    → unwrap_or r (length xs) ≡ position_or_len (other l) xs
+found_or_all xs l r e = ap (λ (o : Option ℕ). unwrap_or o (length xs)) e ∙ by (dec_lt (position_or_len (other l) xs) (length xs))
+  where
+    by : Dec (position_or_len (other l) xs < length xs)
+        → unwrap_or (cond (ltb (position_or_len (other l) xs) (length xs)) (Some (position_or_len (other l) xs)) None) (length xs) ≡ position_or_len (other l) xs
+    by (yes found) = simp (lt-ltb (position_or_len (other l) xs) (length xs) found)
+    by (no none) =
+        let all : length xs ≡ position_or_len (other l) xs = omega (arith, prefix_len-le-length (λ x. not (other l x)) xs) in
+        simp (le-ltb (position_or_len (other l) xs) (length xs) (omega arith)) all
 
--- ---- a block of levels, one by one
-module _ (ls : List ℕ) (l j n : ℕ) where
-  pub one_more : OneLevel ls l j n → get_or ls (j + n) 0 ≡ l → OneLevel ls l j (n + 1)
-  one_more before level t small = by (dec_lt t n)
-    where
-      by : Dec (t < n) → get_or ls (j + t) 0 ≡ l
-      by (yes earlier) = before t earlier
-      by (no past) = let there : t ≡ n = omega arith in ap (λ (k : ℕ). get_or ls (j + k) 0) there ∙ level
+-- behind levels that are all l, the first other one is that of the rest
+pub behind : (l : ℕ) (xs rest : List ℕ) → OneLevel xs l → position_or_len (other l) (xs ++ rest) ≡ length xs + position_or_len (other l) rest
+behind l [] rest level = sym (zero-add (position_or_len (other l) rest))
+behind l (x ∷ xs) rest level =
+    let first : eqb x l ≡ true = eq-eqb x l (level 0 (omega arith)) in
+    let later = behind l xs rest (λ t below. level (suc t) (omega arith)) in
+    simp first (omega (arith, later))
 
-  -- after a turn that found another level, nothing is said
-  pub one_other : (same : Bool) → same ≡ false → same ≡ true → OneLevel ls l j (n + 1)
-  one_other same found still = absurd (let z : ◌≡◌ {A = ℕ} 0 1 = cc in omega arith)
+pub first_other : (l : ℕ) (ls rest : List ℕ) → Begins l ls rest → length ls - length rest + position_or_len (other l) rest ≡ position_or_len (other l) ls
+first_other l ls rest b =
+    let size : length ls ≡ length b.front + length rest = ap length b.all ∙ length-append b.front rest in
+    let all = ap (λ (xs : List ℕ). position_or_len (other l) xs) b.all ∙ behind l b.front rest b.level in
+    omega (arith, size, all)

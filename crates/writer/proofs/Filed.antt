@@ -9,7 +9,10 @@ use lib.ListN.{length, length-append}
 use borrow.Author.Tests.{lt-ltb, le-ltb}
 use Rattle.paper.specs.Outcome.{Outcome, accepted, refused, passed}
 use Rattle.paper.specs.Memory.{written, room_for}
-use Rattle.paper.specs.Readings.{value_of}
+use Rattle.paper.specs.Refusals.{number_of, place_of, outcome_of}
+use Rattle.paper.specs.declared.Refusal.{Refusal}
+use Rattle.paper.specs.declared.Refusal.TheVariants.{NoRoom}
+use Rattle.std.specs.declared.result.Result.TheVariants.{Ok, Err}
 use Rattle.paper.proofs.Memory.{refuses, accepts}
 use Rattle.tree.specs.Anchors.{HIGHEST}
 use Rattle.leaves.specs.Leaves.{CHILDREN, Columns, leaves}
@@ -18,12 +21,11 @@ use Rattle.leaves.specs.Calls.{limit, check_list}
 use Rattle.leaves.proofs.Listed.{columns_sound, listed_passed, listed_refused}
 use Rattle.numbers.specs.Numbers.{bytes_of}
 use Rattle.format.specs.File.{run_bytes, tag, file_of, runs_in}
-use Rattle.format.proofs.Tests.{stops}
+use Rattle.paper.proofs.Tests.{refused_by}
 use Rattle.writer.specs.Calls.{write, FileWritten}
 use Rattle.writer.specs.Inner.{level_file, Counted}
 use Rattle.writer.proofs.Writing.{level_runs_few, run_bytes_few, file_levels}
 use Rattle.numbers.proofs.Cases.{few_bytes}
-use Rattle.paper.specs.declared.NumberAnswer.TheVariants as number
 
 module _ (k : ℕ) (cs : Columns) (bs : List ℕ) where
   abbrev ls : List ℕ
@@ -32,11 +34,10 @@ module _ (k : ℕ) (cs : Columns) (bs : List ℕ) where
   abbrev call : Outcome (List ℕ)
   call = write CHILDREN HIGHEST k cs bs
 
-  pub leaves_refused : (fault spot : ℕ) → check_list CHILDREN HIGHEST k cs ≡ refused fault spot
-      → FileWritten k (number.Refused fault spot) cs bs bs
-  leaves_refused fault spot h =
-      refuses value_of length written call (number.Refused fault spot) bs fault spot
-      (listed_refused CHILDREN HIGHEST k true true cs _ fault spot h) refl
+  pub leaves_refused : (r : Refusal) → check_list CHILDREN HIGHEST k cs ≡ refused (number_of r) (place_of r) → FileWritten k (Err r) cs bs bs
+  leaves_refused r h =
+      refuses outcome_of length written call (Err r) bs (number_of r) (place_of r)
+      (listed_refused CHILDREN HIGHEST k true true cs _ (number_of r) (place_of r) h) refl
 
   module _ (sound : check_list CHILDREN HIGHEST k cs ≡ passed) where
     columns_of_lem : ValidList CHILDREN HIGHEST k cs
@@ -76,11 +77,11 @@ module _ (k : ℕ) (cs : Columns) (bs : List ℕ) where
               length-append count pairs,
             )
 
-        pub no_room_14 : length bs < 4 + m + u + b → FileWritten k (number.Refused 14 (4 + m + u + b)) cs bs bs
+        pub no_room_14 : length bs < 4 + m + u + b → FileWritten k (Err (NoRoom (4 + m + u + b))) cs bs bs
         no_room_14 short =
-            refuses value_of length written call (number.Refused 14 (4 + m + u + b)) bs 14 (4 + m + u + b)
+            refuses outcome_of length written call (Err (NoRoom (4 + m + u + b))) bs 14 (4 + m + u + b)
             (onward
-            ∙ stops (ltb (length bs) (length (level_file k ls))) 14 (length (level_file k ls)) _ (lt-ltb (length bs) (length (level_file k ls)) (omega (arith, size_is)))
+            ∙ refused_by (ltb (length bs) (length (level_file k ls))) 14 (length (level_file k ls)) _ (lt-ltb (length bs) (length (level_file k ls)) (omega (arith, size_is)))
             ∙ ap (refused 14) (sym size_is))
             refl
 
@@ -88,7 +89,7 @@ module _ (k : ℕ) (cs : Columns) (bs : List ℕ) where
           pub room : length (level_file k ls) ≤ length bs
           room = omega (arith, size_is)
 
-          pub file_written : {bs' : List ℕ} → bs' ≡ written (level_file k ls) bs → FileWritten k (number.Is (4 + m + u + b)) cs bs bs'
+          pub file_written : {bs' : List ℕ} → bs' ≡ written (level_file k ls) bs → FileWritten k (Ok (4 + m + u + b)) cs bs bs'
           file_written {bs'} put =
-              accepts value_of length written call (number.Is (4 + m + u + b)) bs (level_file k ls) bs'
+              accepts outcome_of length written call (Ok (4 + m + u + b)) bs (level_file k ls) bs'
               (onward ∙ simp (le-ltb (length bs) (length (level_file k ls)) room)) (ap accepted size_is) put

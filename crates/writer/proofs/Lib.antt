@@ -1,4 +1,3 @@
-pub mod Storing
 pub mod Ending
 pub mod Writing
 pub mod Putting

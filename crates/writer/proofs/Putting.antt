@@ -1,17 +1,18 @@
 -- The pairs of the runs, stored one after the other: what is stored, and then what is left, is the whole. Assumes nothing.
 use mathlib.Core.Path.{◌≡◌, refl, ap, ◌∙◌, sym}
 use mathlib.Core.List.{List, [], ◌∷◌, ◌++◌}
-use Prim.Native.Nat.{ℕ, suc, ◌+◌, ◌-◌, ◌≤◌}
+use Prim.Native.Nat.{ℕ, suc, ◌+◌, ◌≤◌}
 use native.Mathlib.Nat.{add-zero, add-suc, suc-add}
 use native.Mathlib.Omega.{arith}
-use lib.ListN.{length, drop, get_or, set, length-append, drop_of_length-le}
+use lib.ListN.{length, set, length-append}
 use lib.Seq.{sets, length-sets}
 use Rattle.paper.specs.Memory.{written}
 use Rattle.paper.proofs.Front.{written_run}
 use Rattle.numbers.specs.Numbers.{bytes_of}
-use Rattle.format.specs.File.{run_bytes, tag, runs_in}
-use Rattle.writer.specs.Inner.{level_file, RunEnd}
-use Rattle.writer.proofs.Writing.{bytes_first}
+use Rattle.leaves.specs.Calls.{limit}
+use Rattle.format.specs.File.{Run, run_bytes, tag, runs_in, keys_in}
+use Rattle.writer.specs.Inner.{level_file}
+use Rattle.writer.proofs.Writing.{pair_bytes, pair_leaves}
 
 -- one stretch after the other
 sets_append : (l : List ℕ) (i : ℕ) (xs ys : List ℕ) → sets l i (xs ++ ys) ≡ sets (sets l i xs) (i + length xs) ys
@@ -20,56 +21,53 @@ sets_append l i (x ∷ xs) ys =
     sets_append (set l i x) (suc i) xs ys
     ∙ ap (λ (k : ℕ). sets (sets (set l i x) (suc i) xs) k ys) (suc-add i (length xs) ∙ sym (add-suc i (length xs)))
 
--- the pairs from the leaf i on, stored from at on, make the whole
-pub record Stored (ls : List ℕ) (start : ℕ) (whole : List ℕ) (i at : ℕ) (bs : List ℕ) : Type 0 where
-  pub upto : i ≤ length ls
+-- the pairs of the runs that are left, stored from at on, make the whole
+pub record Stored (all rest : List Run) (start : ℕ) (whole : List ℕ) (at : ℕ) (bs : List ℕ) : Type 0 where
   pub long : length bs ≡ length whole
-  pub room : at + length (run_bytes (runs_in (drop i ls))) ≤ length bs
-  pub onward : sets bs at (run_bytes (runs_in (drop i ls))) ≡ sets whole start (run_bytes (runs_in ls))
+  pub room : at + length (run_bytes rest) ≤ length bs
+  pub onward : sets bs at (run_bytes rest) ≡ sets whole start (run_bytes all)
+  pub leaves : length (keys_in rest) ≤ limit
 
-module _ (ls : List ℕ) (start : ℕ) (whole : List ℕ) where
-  pub stored_none : start + length (run_bytes (runs_in ls)) ≤ length whole → Stored ls start whole 0 start whole
-  stored_none room = record { upto = omega arith; long = refl; room = room; onward = refl }
+module _ (all : List Run) (start : ℕ) (whole : List ℕ) where
+  pub stored_none : length (keys_in all) ≤ limit → start + length (run_bytes all) ≤ length whole → Stored all all start whole start whole
+  stored_none few room = record { long = refl; room = room; onward = refl; leaves = few }
 
-  module _ (i at : ℕ) (bs : List ℕ) (s : Stored ls start whole i at bs) where
-    pub stored_done : length ls ≤ i → bs ≡ sets whole start (run_bytes (runs_in ls))
-    unfolding runs_in run_bytes
-    stored_done past = sym (ap (λ (t : List ℕ). sets bs at (run_bytes (runs_in t))) (drop_of_length-le ls {i = i} past)) ∙ s.onward
+  pub stored_done : (rest : List Run) (at : ℕ) (bs : List ℕ) → Stored all rest start whole at bs → rest ≡ [] → bs ≡ sets whole start (run_bytes all)
+  unfolding run_bytes
+  stored_done rest at bs s none = sym (ap (λ (rs : List Run). sets bs at (run_bytes rs)) none) ∙ s.onward
 
-    module _ (j : ℕ) (e : RunEnd ls i j) where
-      abbrev level : List ℕ
-      level = bytes_of (get_or ls i 0)
+  module _ (r : Run) (rs rest : List Run) (is : rest ≡ r ∷ rs) (at : ℕ) (bs : List ℕ) (s : Stored all rest start whole at bs) where
+    pub room_run : at + length (bytes_of r.key) + length (bytes_of r.count) + length (run_bytes rs) ≤ length bs
+    room_run =
+        omega (
+          arith,
+          s.room,
+          ap length (pair_bytes r rs rest is),
+          length-append (bytes_of r.key) (bytes_of r.count ++ run_bytes rs),
+          length-append (bytes_of r.count) (run_bytes rs),
+        )
 
-      abbrev count : List ℕ
-      count = bytes_of (j - i)
+    module _ {bs₁ : List ℕ} (m : ℕ) (one : m ≡ at + length (bytes_of r.key)) (first : bs₁ ≡ sets bs at (bytes_of r.key)) where
+      pub room_count : m + length (bytes_of r.count) ≤ length bs₁
+      room_count = omega (arith, room_run, one, ap length first, length-sets bs at (bytes_of r.key))
 
-      abbrev rest : List ℕ
-      rest = run_bytes (runs_in (drop j ls))
+      module _ {bs₂ : List ℕ} (k : ℕ) (two : k ≡ m + length (bytes_of r.count)) (second : bs₂ ≡ sets bs₁ m (bytes_of r.count)) where
+        kept : length bs₂ ≡ length bs
+        kept = ap length second ∙ length-sets bs₁ m (bytes_of r.count) ∙ ap length first ∙ length-sets bs at (bytes_of r.key)
 
-      pub room_run : at + length level + length count + length rest ≤ length bs
-      room_run = omega (arith, s.room, ap length (bytes_first ls i j e), length-append level (count ++ rest), length-append count rest)
-
-      module _ {bs₁ : List ℕ} (m : ℕ) (one : m ≡ length level) (first : bs₁ ≡ sets bs at level) where
-        pub room_count : at + m + length count ≤ length bs₁
-        room_count = omega (arith, room_run, ap length first, length-sets bs at level)
-
-        module _ {bs₂ : List ℕ} (k : ℕ) (two : k ≡ length count) (second : bs₂ ≡ sets bs₁ (at + m) count) where
-          kept : length bs₂ ≡ length bs
-          kept = ap length second ∙ length-sets bs₁ (at + m) count ∙ ap length first ∙ length-sets bs at level
-
-          pub stored_next : Stored ls start whole j (at + m + k) bs₂
-          stored_next =
-              record {
-                upto = e.alike.within;
-                long = kept ∙ s.long;
-                room = omega (arith, room_run, kept);
-                onward =
-                    rw (second, first, one, two) (
-                    sym (sets_append (sets bs at level) (at + length level) count rest)
-                    ∙ sym (sets_append bs at level (count ++ rest))
-                    ∙ sym (ap (sets bs at) (bytes_first ls i j e))
-                    ∙ s.onward);
-              }
+        pub stored_next : Stored all rs start whole k bs₂
+        stored_next =
+            record {
+              long = kept ∙ s.long;
+              room = omega (arith, room_run, kept, one, two);
+              onward =
+                  rw (second, first, two, one) (
+                  sym (sets_append (sets bs at (bytes_of r.key)) (at + length (bytes_of r.key)) (bytes_of r.count) (run_bytes rs))
+                  ∙ sym (sets_append bs at (bytes_of r.key) (bytes_of r.count ++ run_bytes rs))
+                  ∙ sym (ap (sets bs at) (pair_bytes r rs rest is))
+                  ∙ s.onward);
+              leaves = (pair_leaves r rs rest is s.leaves).1;
+            }
 
 -- ---- the whole file, number by number
 module _ (K R : ℕ) (ls bs : List ℕ) (runs : R ≡ length (runs_in ls)) (room : length (level_file K ls) ≤ length bs) where
@@ -89,11 +87,14 @@ module _ (K R : ℕ) (ls bs : List ℕ) (runs : R ≡ length (runs_in ls)) (room
         length-append (bytes_of R) pairs,
       )
 
-  module _ {bs₁ bs₂ bs₃ : List ℕ} (m u : ℕ) (one : m ≡ length (bytes_of K)) (two : u ≡ length (bytes_of R)) where
-    pub file_put : bs₁ ≡ sets (sets bs 0 tag) 4 (bytes_of K) → bs₂ ≡ sets bs₁ (4 + m) (bytes_of R) → bs₃ ≡ sets bs₂ (4 + m + u) pairs → bs₃ ≡ written (level_file K ls) bs
+  tag_put : sets bs 0 tag ≡ written tag bs
+  tag_put = written_run [] tag bs (omega (arith, file_room))
+
+  module _ {bs₁ bs₂ bs₃ : List ℕ} (m u : ℕ) (one : m ≡ 4 + length (bytes_of K)) (two : u ≡ m + length (bytes_of R)) where
+    pub file_put : bs₁ ≡ sets (written tag bs) 4 (bytes_of K) → bs₂ ≡ sets bs₁ m (bytes_of R) → bs₃ ≡ sets bs₂ u pairs → bs₃ ≡ written (level_file K ls) bs
     file_put first second third =
         third
-        ∙ rw (second, first, one, two) (
+        ∙ rw (second, first, two, one, ← tag_put) (
         sym (sets_append (sets (sets bs 0 tag) 4 (bytes_of K)) (4 + length (bytes_of K)) (bytes_of R) pairs)
         ∙ sym (sets_append (sets bs 0 tag) 4 (bytes_of K) (bytes_of R ++ pairs))
         ∙ sym (ap (sets bs 0) whole)

@@ -1,26 +1,28 @@
 -- The runs of a list follow from its levels: leaves of one level, before a leaf of another, are the first run. Assumes nothing.
-use mathlib.Core.Path.{◌≡◌, refl, ap, ap₂, ◌∙◌, sym}
+use mathlib.Core.Path.{◌≡◌, refl, ap, ◌∙◌, sym}
 use mathlib.Core.Bool.{Bool, true, false, cond}
 use mathlib.Core.List.{List, [], ◌∷◌, ◌++◌}
-use Prim.Native.Nat.{ℕ, zero, suc, ◌+◌, ◌-◌, ◌*◌, ◌≤◌, ◌<◌}
+use Prim.Native.Nat.{ℕ, zero, suc, ◌+◌, ◌*◌, ◌≤◌}
 use native.Mathlib.Nat.{zero-add}
-use native.Mathlib.Numerals.{add-one}
-use native.Mathlib.Decide.{dec_lt}
+use native.Mathlib.Decide.{ℕ_discrete}
 use native.Mathlib.Omega.{arith}
-use lib.ListN.{length, drop, get_or, length-append, drop_of_length-le}
+use lib.ListN.{length, drop, get_or, replicate, length-append, length-replicate, drop_of_length-le}
 use lib.Seq.{drop-cons}
+use borrow.Author.Tests.{eq-eqb, ne_eqb}
+use Rattle.std.specs.List.{position_or_len}
 use Rattle.paper.specs.Outcome.{rows}
 use Rattle.leaves.specs.Leaves.{Columns, leaf_at, leaves}
 use Rattle.leaves.specs.Calls.{limit}
 use Rattle.numbers.specs.Numbers.{bytes_of}
-use Rattle.format.specs.File.{same_key, Run, run, join_run, runs_in, runs_of, run_bytes, runs_file, file_of, Differs}
-use Rattle.writer.specs.Inner.{level_file, RunEnd, Counted}
+use Rattle.format.specs.File.{same_key, Run, run, join_run, runs_in, runs_of, run_bytes, runs_file, file_of, keys_in, Differs}
+use Rattle.writer.specs.Inner.{level_file, other, Counted}
 use Rattle.numbers.proofs.Cases.{few_bytes}
 use Rattle.format.proofs.Keys.{same_key_lem}
 use Rattle.format.proofs.Runs.{join_few}
 use Rattle.format.proofs.Fitting.{first_run}
+use Rattle.format.proofs.AreRuns.{key_runs_are}
 
--- ---- the runs from the leaf i on, where its run ends before the leaf j
+-- ---- the first run: its level, and how many levels follow that are the same
 differs_join : (m l : ℕ) (rs : List Run) → (m ≡ l → ⊥) → Differs m (join_run l rs)
 differs_join m l [] other = other
 differs_join m l (r ∷ rs) other = by (same_key l r.key)
@@ -29,37 +31,28 @@ differs_join m l (r ∷ rs) other = by (same_key l r.key)
     by true = other
     by false = other
 
-module _ (ls : List ℕ) (l j : ℕ) (within : j ≤ length ls) (other : Differs l (runs_in (drop j ls))) where
-  stretch : (k i : ℕ) → i + suc k ≡ j → ((t : ℕ) → i ≤ t → t < j → get_or ls t 0 ≡ l) → runs_in (drop i ls) ≡ run l (suc k) ∷ runs_in (drop j ls)
-  unfolding runs_in
-  stretch zero i ends same =
-      let next : suc i ≡ j = omega arith in
-      ap runs_in (drop-cons ls i 0 (omega arith))
-      ∙ ap₂ (λ (m t : ℕ). join_run m (runs_in (drop t ls))) (same i (omega arith) (omega arith)) next
-      ∙ first_run l (runs_in (drop j ls)) other
-  stretch (suc k) i ends same =
-      ap runs_in (drop-cons ls i 0 (omega arith))
-      ∙ ap₂ join_run (same i (omega arith) (omega arith)) (stretch k (suc i) (omega arith) (λ t from upto. same t (omega arith) upto))
-      ∙ simp (same_key_lem l l refl) (ap (λ (m : ℕ). run l m ∷ runs_in (drop j ls)) (add-one (suc k)))
+pub runs_none : (ls : List ℕ) → length ls ≡ 0 → runs_in ls ≡ []
+unfolding runs_in
+runs_none [] none = refl
+runs_none (l ∷ ls) none = absurd (omega arith)
 
-module _ (ls : List ℕ) (i j : ℕ) (e : RunEnd ls i j) where
-  other_next : Differs (get_or ls i 0) (runs_in (drop j ls))
-  unfolding runs_in
-  other_next = by (dec_lt j (length ls))
-    where
-      by : Dec (j < length ls) → Differs (get_or ls i 0) (runs_in (drop j ls))
-      by (yes inside) = rw (drop-cons ls j 0 inside) (differs_join (get_or ls i 0) (get_or ls j 0) (runs_in (drop (suc j) ls)) (e.other inside))
-      by (no past) = rw (drop_of_length-le ls {i = j} (omega arith)) tt
-
-  pub runs_first : runs_in (drop i ls) ≡ run (get_or ls i 0) (j - i) ∷ runs_in (drop j ls)
-  runs_first =
-      let size : suc (j - suc i) ≡ j - i = omega (arith, e.alike.some) in
-      stretch ls (get_or ls i 0) j e.alike.within other_next (j - suc i) i (omega (arith, e.alike.some)) e.alike.same
-      ∙ ap (λ (k : ℕ). run (get_or ls i 0) k ∷ runs_in (drop j ls)) size
-
-  pub bytes_first : run_bytes (runs_in (drop i ls)) ≡ bytes_of (get_or ls i 0) ++ (bytes_of (j - i) ++ run_bytes (runs_in (drop j ls)))
-  unfolding run_bytes
-  bytes_first = ap run_bytes runs_first
+-- a level in front, and its run
+pub front_run : (l : ℕ) (ls : List ℕ) → runs_in (l ∷ ls) ≡ run l (1 + position_or_len (other l) ls) ∷ runs_in (drop (position_or_len (other l) ls) ls)
+unfolding runs_in
+front_run l [] = refl
+front_run l (k ∷ ks) = by (ℕ_discrete k l) (front_run l ks)
+  where
+    by : Dec (k ≡ l) → runs_in (l ∷ ks) ≡ run l (1 + position_or_len (other l) ks) ∷ runs_in (drop (position_or_len (other l) ks) ks)
+        → runs_in (l ∷ k ∷ ks) ≡ run l (1 + position_or_len (other l) (k ∷ ks)) ∷ runs_in (drop (position_or_len (other l) (k ∷ ks)) (k ∷ ks))
+    by (yes same) shorter =
+        let p = position_or_len (other l) ks in
+        let there : position_or_len (other l) (k ∷ ks) ≡ suc p = simp (eq-eqb k l same) (omega arith) in
+        ap (λ (m : ℕ). join_run l (runs_in (m ∷ ks))) same
+        ∙ ap (join_run l) shorter
+        ∙ simp (same_key_lem l l refl) (rw there (ap (λ (m : ℕ). run l m ∷ runs_in (drop p ks)) (omega arith)))
+    by (no differs) shorter =
+        let there : position_or_len (other l) (k ∷ ks) ≡ 0 = simp (ne_eqb k l differs) in
+        first_run l (runs_in (k ∷ ks)) (differs_join l k (runs_in ks) (λ same. differs (sym same))) ∙ rw there refl
 
 -- ---- how many runs and bytes at most
 pub level_runs_few : (ls : List ℕ) → length (runs_in ls) ≤ length ls
@@ -80,46 +73,58 @@ run_bytes_few (r ∷ rs) =
       few_bytes r.count,
     )
 
--- ---- the count, run by run
-pub record Along (ls : List ℕ) (i R b : ℕ) : Type 0 where
-  pub upto : i ≤ length ls
-  pub runs : R + length (runs_in (drop i ls)) ≡ length (runs_in ls)
-  pub bytes : b + length (run_bytes (runs_in (drop i ls))) ≡ length (run_bytes (runs_in ls))
+-- ---- the count, run by run: those that are left, and what was counted of all
+pub record Along (all rest : List Run) (R b : ℕ) : Type 0 where
+  pub runs : R + length rest ≡ length all
+  pub bytes : b + length (run_bytes rest) ≡ length (run_bytes all)
+  pub leaves : length (keys_in rest) ≤ limit
 
-module _ (ls : List ℕ) where
-  pub along_none : Along ls 0 0 0
-  along_none = record { upto = omega arith; runs = zero-add _; bytes = zero-add _ }
+pub leaves_few : (ls : List ℕ) → length ls ≤ limit → length (keys_in (runs_in ls)) ≤ limit
+leaves_few ls few = omega (arith, ap length (key_runs_are ls).0)
 
-  module _ (i R b : ℕ) (a : Along ls i R b) where
-    pub along_few : length ls ≤ limit → (R ≤ limit) × (b ≤ 6 * limit)
-    along_few few =
-        let one = level_runs_few ls in
-        let six = run_bytes_few (runs_in ls) in
-        (omega (arith, a.runs), omega (arith, a.bytes))
+pub along_none : (ls : List ℕ) → length ls ≤ limit → Along (runs_in ls) (runs_in ls) 0 0
+along_none ls few = record { runs = zero-add _; bytes = zero-add _; leaves = leaves_few ls few }
 
-    pub along_next : (j : ℕ) → RunEnd ls i j → Along ls j (R + 1) (b + (length (bytes_of (get_or ls i 0)) + length (bytes_of (j - i))))
-    along_next j e =
-        record {
-          upto = e.alike.within;
-          runs = omega (arith, a.runs, ap length (runs_first ls i j e));
-          bytes =
-              omega (
-                arith,
-                a.bytes,
-                ap length (bytes_first ls i j e),
-                length-append (bytes_of (get_or ls i 0)) (bytes_of (j - i) ++ run_bytes (runs_in (drop j ls))),
-                length-append (bytes_of (j - i)) (run_bytes (runs_in (drop j ls))),
-              );
-        }
+-- the first of the runs that are left
+module _ (r : Run) (rs rest : List Run) (is : rest ≡ r ∷ rs) where
+  pub pair_bytes : run_bytes rest ≡ bytes_of r.key ++ (bytes_of r.count ++ run_bytes rs)
+  unfolding run_bytes
+  pair_bytes = ap run_bytes is
 
-    pub along_done : length ls ≤ i → Counted ls R b
-    unfolding runs_in run_bytes
-    along_done past =
-        let none = drop_of_length-le ls {i = i} past in
-        record {
-          runs = omega (arith, a.runs, ap (λ (t : List ℕ). length (runs_in t)) none);
-          bytes = omega (arith, a.bytes, ap (λ (t : List ℕ). length (run_bytes (runs_in t))) none);
-        }
+  pub pair_leaves : length (keys_in rest) ≤ limit → (r.count ≤ limit) × (length (keys_in rs) ≤ limit)
+  unfolding keys_in
+  pair_leaves few =
+      let sum = ap (λ (us : List Run). length (keys_in us)) is ∙ length-append (replicate r.count r.key) (keys_in rs) in
+      (omega (arith, sum, length-replicate r.count r.key), omega (arith, sum))
+
+  pub along_next : (all : List Run) (R b : ℕ) → Along all rest R b → Along all rs (R + 1) (b + (length (bytes_of r.key) + length (bytes_of r.count)))
+  along_next all R b a =
+      record {
+        runs = omega (arith, a.runs, ap length is);
+        bytes =
+            omega (
+              arith,
+              a.bytes,
+              ap length pair_bytes,
+              length-append (bytes_of r.key) (bytes_of r.count ++ run_bytes rs),
+              length-append (bytes_of r.count) (run_bytes rs),
+            );
+        leaves = (pair_leaves a.leaves).1;
+      }
+
+pub along_few : (ls : List ℕ) (rest : List Run) (R b : ℕ) → length ls ≤ limit → Along (runs_in ls) rest R b → (R ≤ limit) × (b ≤ 6 * limit)
+along_few ls rest R b few a =
+    let one = level_runs_few ls in
+    let six = run_bytes_few (runs_in ls) in
+    (omega (arith, a.runs), omega (arith, a.bytes))
+
+pub along_done : (ls : List ℕ) (rest : List Run) (R b : ℕ) → Along (runs_in ls) rest R b → rest ≡ [] → Counted ls R b
+unfolding run_bytes
+along_done ls rest R b a none =
+    record {
+      runs = omega (arith, a.runs, ap length none);
+      bytes = omega (arith, a.bytes, ap (λ (rs : List Run). length (run_bytes rs)) none);
+    }
 
 -- ---- the list that stands in three columns
 module _ (cs : Columns) where

@@ -7,10 +7,11 @@
 --
 -- Assumes nothing.
 use Rattle.std.specs.Prelude.{true, List, ℕ, length}
+use Rattle.std.specs.declared.result.Result.{Result}
 use Rattle.paper.specs.Outcome.{Outcome, mapped}
 use Rattle.paper.specs.Memory.{written, room_for, Fulfils}
-use Rattle.paper.specs.Readings.{value_of}
-use Rattle.paper.specs.declared.NumberAnswer.{NumberAnswer}
+use Rattle.paper.specs.declared.Refusal.{Refusal}
+use Rattle.paper.specs.Refusals.{outcome_of}
 use Rattle.tree.specs.Anchors.{HIGHEST}
 use Rattle.leaves.specs.Leaves.{CHILDREN, Columns, leaves}
 use Rattle.leaves.specs.Calls.{listed}
@@ -21,5 +22,5 @@ write n L K cs bytes =
     listed n L K true true cs
     (room_for (length (file_of K (leaves cs))) (length bytes) (file_of K (leaves cs)))
 
-abbrev pub FileWritten : ℕ → NumberAnswer → Columns → List ℕ → List ℕ → Type 0
-FileWritten k r cs bytes bytes' = Fulfils value_of (mapped length) written (write CHILDREN HIGHEST k cs bytes) r bytes bytes'
+abbrev pub FileWritten : ℕ → Result ℕ Refusal → Columns → List ℕ → List ℕ → Type 0
+FileWritten k r cs bytes bytes' = Fulfils outcome_of (mapped length) written (write CHILDREN HIGHEST k cs bytes) r bytes bytes'

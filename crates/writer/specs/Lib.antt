@@ -1,2 +1,3 @@
 pub mod Calls
 pub mod Inner
+pub mod Runs

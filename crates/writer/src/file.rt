@@ -6,7 +6,8 @@ ghost use Rattle.leaves.specs.Calls.{limit};
 ghost use Rattle.format.specs.File.{run_bytes, runs_in};
 ghost use Rattle.writer.specs.Inner.{level_file};
 
-use crate::{number, run};
+use crate::number::put;
+use crate::run::Runs;
 use format::TAG;
 
 // The file of a list of k roots with these levels: the tag, K, R, then the pairs of the runs.
@@ -16,15 +17,10 @@ pub(crate) fn put_file(k: u16, runs: u32, levels: &[u8], bytes: &mut [u8])
     requires levels_in_bounds { length (level_file k levels.now) ≤ length bytes.old }
     ensures { bytes.new ≡ written (level_file k levels.now) bytes.old }
 {
-    let tag = TAG;
-    bytes[0] = tag[0];
-    bytes[1] = tag[1];
-    bytes[2] = tag[2];
-    bytes[3] = tag[3];
-    number::put(k as u32, 4, bytes);
-    let at = 4 + numbers::size(k as u32);
-    number::put(runs, at, bytes);
-    put_runs(levels, at + numbers::size(runs), bytes);
+    bytes[..4].copy_from_slice(&TAG);
+    let at = put(u32::from(k), 4, bytes);
+    let start = put(runs, at, bytes);
+    put_runs(levels, start, bytes);
 }
 
 // The pairs of the runs, level and count, stored from an offset on.
@@ -34,15 +30,8 @@ fn put_runs(levels: &[u8], start: usize, bytes: &mut [u8])
     ensures { bytes.new ≡ sets bytes.old start (run_bytes (runs_in levels.now)) }
 {
     let mut at = start;
-    let mut i = 0;
-    while i < levels.len() {
-        let end = run::end(levels, i);
-        let level = levels[i] as u32;
-        let count = (end - i) as u32;
-        number::put(level, at, bytes);
-        at += numbers::size(level);
-        number::put(count, at, bytes);
-        at += numbers::size(count);
-        i = end;
+    for run in Runs(levels) {
+        at = put(u32::from(run.level), at, bytes);
+        at = put(run.count as u32, at, bytes);
     }
 }

@@ -1,75 +1,94 @@
 // The runs of a list. A run ends where the level changes and passes over the ends of roots, so that only the levels are read.
-ghost use Rattle.std.specs.Prelude.{◌≡◌, true, ◌+◌, ◌≤◌, ◌<◌, length};
+ghost use Rattle.std.specs.Prelude.{◌≡◌, true, ◌≤◌, length};
+ghost use Rattle.std.specs.List.{position_or_len};
+ghost use Rattle.std.specs.Iterator.{YieldsFirstBy, item_count};
 ghost use Rattle.leaves.specs.Calls.{limit};
-ghost use Rattle.writer.specs.Inner.{OneLevel, Alike, RunEnd, Counted};
+ghost use Rattle.writer.specs.Inner.{OneLevel, Begins, other, Counted};
+ghost use Rattle.writer.specs.Runs.{key_count, runs_left};
+
+// A run: its level, and how many leaves it has.
+#[derive(Clone, Copy)]
+pub(crate) struct Run {
+    pub(crate) level: u8,
+    pub(crate) count: usize,
+}
+
+// The runs of a list, in order, by its levels: what `chunk_by` gives, but found 64 levels at a time.
+#[derive(Drop)]
+pub(crate) struct Runs<'a>(pub(crate) &'a [u8]);
+
+impl<'a> Iterator for Runs<'a> {
+    type Item = Run;
+
+    ghost next_gives = { YieldsFirstBy key_count runs_left };
+
+    ghost remaining = { item_count runs_left };
+
+    // Inlined: a call for each short run would cost.
+    #[inline(always)]
+    fn next(&mut self) -> Option<Run> {
+        let (&level, others) = self.0.split_first()?;
+        let same = same_in_front(others, level);
+        self.0 = &others[same..];
+        Some(Run {
+            level,
+            count: 1 + same,
+        })
+    }
+}
 
 // The runs of a list: how many they are, and how many bytes their pairs have.
 #[derive(Clone, Copy)]
-pub(crate) struct Runs {
-    pub(crate) count: u32,
+pub(crate) struct Size {
+    pub(crate) runs: u32,
     pub(crate) bytes: usize,
 }
 
 // The runs of the levels.
-pub(crate) fn count(levels: &[u8]) -> Runs
+pub(crate) fn count(levels: &[u8]) -> Size
     requires { length levels.now ≤ limit }
-    ensures { Counted levels.now result.count result.bytes }
+    ensures { Counted levels.now result.runs result.bytes }
 {
-    let mut i = 0;
-    let mut count = 0;
+    let mut runs = 0;
     let mut bytes = 0;
-    while i < levels.len() {
-        let end = end(levels, i);
-        count += 1;
-        bytes += numbers::size(levels[i] as u32) + numbers::size((end - i) as u32);
-        i = end;
+    for run in Runs(levels) {
+        runs += 1;
+        bytes += numbers::size(u32::from(run.level)) + numbers::size(run.count as u32);
     }
-    Runs { count, bytes }
+    Size { runs, bytes }
 }
 
-// Where the run that begins with leaf i ends: the first leaf of another level, or the end of the list.
-pub(crate) fn end(levels: &[u8], i: usize) -> usize
-    requires { i < length levels.now }
-    ensures { RunEnd levels.now i result }
+// How many levels in front are the one before them: 64 at a time, then one by one.
+fn same_in_front(levels: &[u8], level: u8) -> usize
+    ensures within { result ≤ length levels.now }
+    ensures same { result ≡ position_or_len (other level) levels.now }
 {
-    let level = levels[i];
-    let mut j = skip(levels, i);
-    while j < levels.len() {
-        if levels[j] != level {
-            return j;
-        }
-        j += 1;
-    }
-    j
+    let rest = after_blocks(levels, level);
+    let same = rest.iter().position(|l| *l != level).unwrap_or(rest.len());
+    levels.len() - rest.len() + same
 }
 
-// A leaf up to which the run that begins with leaf i goes on for sure: its levels 64 at a time, as long as all of them are the same.
-fn skip(levels: &[u8], i: usize) -> usize
-    requires { i < length levels.now }
-    ensures { Alike levels.now i result }
+// What is left of the levels after the blocks of 64 that they begin with and that are all of one level.
+fn after_blocks(levels: &[u8], level: u8) -> &[u8]
+    ensures { Begins level levels.now result.now }
 {
-    let mut j = i + 1;
-    while 64 <= levels.len() - j {
-        if !one_level(levels, levels[i], j) {
-            return j;
+    let mut rest = levels;
+    while let Some((block, others)) = rest.split_first_chunk::<64>() {
+        if !one_level(block, level) {
+            return rest;
         }
-        j += 64;
+        rest = others;
     }
-    j
+    rest
 }
 
-// True only where the 64 levels from an index on are all the one given: without a way out in between, so that the machine takes many at a time.
-fn one_level(levels: &[u8], level: u8, from: usize) -> bool
-    requires { from + 64 ≤ length levels.now }
-    ensures { result ≡ true → OneLevel levels.now level from 64 }
+// True only where all levels of a block are the one given: without a way out in between, so that the machine takes many at a time.
+fn one_level(block: &[u8; 64], level: u8) -> bool
+    ensures { result ≡ true → OneLevel block.now level }
 {
     let mut same = true;
-    let mut t = 0;
-    while t < 64 {
-        if levels[from + t] != level {
-            same = false;
-        }
-        t += 1;
+    for l in block {
+        same &= *l == level;
     }
     same
 }

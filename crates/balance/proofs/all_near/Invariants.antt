@@ -2,7 +2,7 @@
 use mathlib.Core.Path.{◌≡◌}
 use mathlib.Core.Bool.{◌&&◌}
 use mathlib.Core.List.{List}
-use Prim.Native.Nat.{ℕ, ◌-◌, ◌≤◌}
+use Prim.Native.Nat.{ℕ}
 use lib.ListN.{length}
 use Rattle.leaves.specs.Leaves.{columns, leaf_at, leaves}
 use Rattle.balance.specs.Balance.{is_balanced}
@@ -11,8 +11,5 @@ use Rattle.balance.proofs.all_near.Given as goal
 
 abbrev pub invariant-loop-i : goal.invariant-loop-i
 invariant-loop-i l =
-    (1 ≤ l.i)
-    × ((positions : List ℕ) → is_balanced (leaves (columns l.roots l.levels positions)) ≡ (l.all && balanced_from (leaf_at (columns l.roots l.levels positions)) (length l.roots) l.i))
-
-abbrev pub decreases-loop-i : goal.decreases-loop-i
-decreases-loop-i l = length l.roots - l.i
+    (positions : List ℕ)
+    → is_balanced (leaves (columns l.roots l.levels positions)) ≡ (l.all && balanced_from (leaf_at (columns l.roots l.levels positions)) (length l.roots) l.i)

@@ -1,83 +1,89 @@
--- `read` meets its contract: before each field, those to the left are without fault and their numbers are kept. Assumes nothing.
-use mathlib.Core.Path.{refl, sym, ◌∙◌}
-use native.Mathlib.Omega.{arith}
-use Rattle.forms.proofs.Deciding.{reading_start, reading_refused, reading_step}
-use Rattle.forms.proofs.Whole.{reading_open, level_small, leaves_small, shares_small, reading_form}
+-- `read` meets its contract: each field in turn is the first with a fault, or the line goes on after it. Assumes nothing.
+use Rattle.std.proofs.Common.{arith, sym, ◌∙◌}
+use Rattle.forms.proofs.Deciding.{reading_start, reading_unfit}
+use Rattle.forms.proofs.Whole.{refused_out, unfit_site, unfit_model, unfit_roots, outside_roots, unfit_highest, outside_highest, unfit_shares, outside_shares, unfit_level, outside_level, loose_end, leaves_small, form_read}
 use Rattle.forms.proofs.read.Goals as goal
 
-pub loop-i-init : goal.loop-i-init
-loop-i-init c = reading_start c.args.input.now _ refl
+pub returns-in_err-order : goal.returns-in_err-order
+returns-in_err-order c =
+    refused_out _ c.from_residual.result c.from_residual.ensures.1 (reading_unfit (reading_start c.args.input.now) (omega arith)
+    c.in_err-order.ensures)
 
-pub bounds-v-4 : goal.bounds-v-4
-bounds-v-4 c = omega (arith, c.loop-i.invariant.long)
+pub returns-in_err-site : goal.returns-in_err-site
+returns-in_err-site c =
+    refused_out _ c.from_residual-in_err-site.result c.from_residual-in_err-site.ensures.1
+    (unfit_site c.args.input.now c.in_ok-order.ensures c.after.ensures c.in_err-site.ensures)
 
-pub bounds-v-5 : goal.bounds-v-5
-bounds-v-5 c = omega (arith, c.loop-i.invariant.long)
+pub returns-in_err-model : goal.returns-in_err-model
+returns-in_err-model c =
+    refused_out _ c.from_residual-in_err-model.result c.from_residual-in_err-model.ensures.1
+    (unfit_model c.args.input.now c.in_ok-order.ensures c.after.ensures c.in_ok-site.ensures c.after-2.ensures c.in_err-model.ensures)
 
-pub returns-then-found-ne0 : goal.returns-then-found-ne0
-returns-then-found-ne0 c =
-    let l = c.loop-i in
-    reading_refused l.invariant c.loop-i-test.true c.take-found.ensures c.if-found-ne0.true
+pub returns-in_err-roots : goal.returns-in_err-roots
+returns-in_err-roots c =
+    refused_out _ c.from_residual-in_err-roots.result c.from_residual-in_err-roots.ensures.1
+    (unfit_roots c.args.input.now c.in_ok-order.ensures c.after.ensures c.in_ok-site.ensures c.after-2.ensures c.in_ok-model.ensures
+    c.after-3.ensures c.in_err-roots.ensures)
 
-pub offset_bounds-v-i : goal.offset_bounds-v-i
-offset_bounds-v-i c = omega arith
+pub returns-in_err-check_count : goal.returns-in_err-check_count
+returns-in_err-check_count c =
+    refused_out _ c.from_residual-in_err-check_count.result c.from_residual-in_err-check_count.ensures.1
+    (outside_roots c.args.input.now c.in_ok-order.ensures c.after.ensures c.in_ok-site.ensures c.after-2.ensures c.in_ok-model.ensures
+    c.after-3.ensures c.in_ok-roots.ensures c.in_err-check_count.ensures)
 
-pub bounds-v-i : goal.bounds-v-i
-bounds-v-i c = omega (arith, c.loop-i.invariant.long)
+pub returns-in_err-highest : goal.returns-in_err-highest
+returns-in_err-highest c =
+    refused_out _ c.from_residual-in_err-highest.result c.from_residual-in_err-highest.ensures.1
+    (unfit_highest c.args.input.now c.in_ok-order.ensures c.after.ensures c.in_ok-site.ensures c.after-2.ensures c.in_ok-model.ensures
+    c.after-3.ensures c.in_ok-roots.ensures c.in_ok-check_count.ensures c.after-4.ensures c.in_err-highest.ensures)
 
-pub overflow_add-i : goal.overflow_add-i
-overflow_add-i c = omega arith
+pub returns-in_err-check_highest : goal.returns-in_err-check_highest
+returns-in_err-check_highest c =
+    refused_out _ c.from_residual-in_err-check_highest.result c.from_residual-in_err-check_highest.ensures.1
+    (outside_highest c.args.input.now c.in_ok-order.ensures c.after.ensures c.in_ok-site.ensures c.after-2.ensures c.in_ok-model.ensures
+    c.after-3.ensures c.in_ok-roots.ensures c.in_ok-check_count.ensures c.after-4.ensures c.in_ok-highest.ensures c.in_err-check_highest.ensures)
 
-pub loop-i-smaller : goal.loop-i-smaller
-loop-i-smaller c = omega arith
+pub returns-in_err-shares : goal.returns-in_err-shares
+returns-in_err-shares c =
+    refused_out _ c.from_residual-in_err-shares.result c.from_residual-in_err-shares.ensures.1
+    (unfit_shares c.args.input.now c.in_ok-order.ensures c.after.ensures c.in_ok-site.ensures c.after-2.ensures c.in_ok-model.ensures
+    c.after-3.ensures c.in_ok-roots.ensures c.in_ok-check_count.ensures c.after-4.ensures c.in_ok-highest.ensures c.in_ok-check_highest.ensures
+    c.after-5.ensures c.in_err-shares.ensures)
 
-pub loop-i-preserved : goal.loop-i-preserved
-loop-i-preserved c =
-    let l = c.loop-i in
-    rw c.after-at.ensures (reading_step l.invariant c.loop-i-test.true c.take-found.ensures c.if-found-ne0.false)
+pub returns-in_err-check_count-2 : goal.returns-in_err-check_count-2
+returns-in_err-check_count-2 c =
+    refused_out _ c.from_residual-in_err-check_count-2.result c.from_residual-in_err-check_count-2.ensures.1
+    (outside_shares c.args.input.now c.in_ok-order.ensures c.after.ensures c.in_ok-site.ensures c.after-2.ensures c.in_ok-model.ensures
+    c.after-3.ensures c.in_ok-roots.ensures c.in_ok-check_count.ensures c.after-4.ensures c.in_ok-highest.ensures c.in_ok-check_highest.ensures
+    c.after-5.ensures c.in_ok-shares.ensures c.in_err-check_count-2.ensures)
+
+pub returns-in_err-level : goal.returns-in_err-level
+returns-in_err-level c =
+    refused_out _ c.from_residual-in_err-level.result c.from_residual-in_err-level.ensures.1
+    (unfit_level c.args.input.now c.in_ok-order.ensures c.after.ensures c.in_ok-site.ensures c.after-2.ensures c.in_ok-model.ensures
+    c.after-3.ensures c.in_ok-roots.ensures c.in_ok-check_count.ensures c.after-4.ensures c.in_ok-highest.ensures c.in_ok-check_highest.ensures
+    c.after-5.ensures c.in_ok-shares.ensures c.in_ok-check_count-2.ensures c.after-6.ensures c.in_err-level.ensures)
+
+pub returns-in_err-check_level : goal.returns-in_err-check_level
+returns-in_err-check_level c =
+    refused_out _ c.from_residual-in_err-check_level.result c.from_residual-in_err-check_level.ensures.1
+    (outside_level c.args.input.now c.in_ok-order.ensures c.after.ensures c.in_ok-site.ensures c.after-2.ensures c.in_ok-model.ensures
+    c.after-3.ensures c.in_ok-roots.ensures c.in_ok-check_count.ensures c.after-4.ensures c.in_ok-highest.ensures c.in_ok-check_highest.ensures
+    c.after-5.ensures c.in_ok-shares.ensures c.in_ok-check_count-2.ensures c.after-6.ensures c.in_ok-level.ensures c.in_err-check_level.ensures)
 
 pub returns-then-not-closing : goal.returns-then-not-closing
 returns-then-not-closing c =
-    let l = c.loop-i in
-    reading_open l.invariant c.loop-i-test.false (sym c.closing.ensures ∙ c.if-not-closing.true)
-
-pub bounds-v-1 : goal.bounds-v-1
-bounds-v-1 c = omega (arith, c.loop-i.invariant.long)
-
-pub bounds-v-2 : goal.bounds-v-2
-bounds-v-2 c = omega (arith, c.loop-i.invariant.long)
-
-pub bounds-v-3 : goal.bounds-v-3
-bounds-v-3 c = omega (arith, c.loop-i.invariant.long)
-
-pub bounds-v-4-2 : goal.bounds-v-4-2
-bounds-v-4-2 c = omega (arith, c.loop-i.invariant.long)
-
-pub bounds-v-7 : goal.bounds-v-7
-bounds-v-7 c = omega (arith, c.loop-i.invariant.long)
-
-pub bounds-v-4-3 : goal.bounds-v-4-3
-bounds-v-4-3 c = omega (arith, c.loop-i.invariant.long)
-
-pub bounds-v-7-2 : goal.bounds-v-7-2
-bounds-v-7-2 c = omega (arith, c.loop-i.invariant.long)
-
-pub overflow_mul-result : goal.overflow_mul-result
-overflow_mul-result c = omega (arith, level_small c.loop-i.invariant c.loop-i-test.false)
-
-pub overflow_shl-result : goal.overflow_shl-result
-overflow_shl-result c = omega (arith, level_small c.loop-i.invariant c.loop-i-test.false)
+    loose_end c.args.input.now c.in_ok-order.ensures c.after.ensures c.in_ok-site.ensures c.after-2.ensures c.in_ok-model.ensures c.after-3.ensures
+    c.in_ok-roots.ensures c.in_ok-check_count.ensures c.after-4.ensures c.in_ok-highest.ensures c.in_ok-check_highest.ensures c.after-5.ensures
+    c.in_ok-shares.ensures c.in_ok-check_count-2.ensures c.after-6.ensures c.in_ok-level.ensures c.in_ok-check_level.ensures
+    (sym c.closing.ensures ∙ c.if-not-closing.true)
 
 pub overflow_cast-result : goal.overflow_cast-result
-overflow_cast-result c = omega (arith, leaves_small c.loop-i.invariant c.loop-i-test.false)
-
-pub bounds-v-6 : goal.bounds-v-6
-bounds-v-6 c = omega (arith, c.loop-i.invariant.long)
-
-pub overflow_cast-result-2 : goal.overflow_cast-result-2
-overflow_cast-result-2 c = omega (arith, shares_small c.loop-i.invariant c.loop-i-test.false)
+overflow_cast-result c = omega (arith, leaves_small c.args.input.now c.in_ok-order.ensures c.after.ensures c.in_ok-site.ensures c.after-2.ensures c.in_ok-model.ensures c.after-3.ensures c.in_ok-roots.ensures c.in_ok-check_count.ensures c.after-4.ensures c.in_ok-highest.ensures c.in_ok-check_highest.ensures c.after-5.ensures c.in_ok-shares.ensures c.in_ok-check_count-2.ensures c.after-6.ensures c.in_ok-level.ensures c.in_ok-check_level.ensures)
 
 pub returns : goal.returns
 returns c =
-    let l = c.loop-i in
-    reading_form l.invariant c.loop-i-test.false (sym c.closing.ensures ∙ c.if-not-closing.false)
+    form_read c.args.input.now c.in_ok-order.ensures c.after.ensures c.in_ok-site.ensures c.after-2.ensures c.in_ok-model.ensures c.after-3.ensures
+    c.in_ok-roots.ensures c.in_ok-check_count.ensures c.after-4.ensures c.in_ok-highest.ensures c.in_ok-check_highest.ensures c.after-5.ensures
+    c.in_ok-shares.ensures c.in_ok-check_count-2.ensures c.after-6.ensures c.in_ok-level.ensures c.in_ok-check_level.ensures
+    (sym c.closing.ensures ∙ c.if-not-closing.false)

@@ -1,59 +1,21 @@
--- `check` meets its contract: the marks are not as many as the levels, or none has a fault, or the two checks in turn. Assumes nothing.
-use mathlib.Core.Path.{refl, ◌∙◌, sym, subst}
-use lib.ListN.{length}
-use Rattle.paper.specs.Outcome.{passed}
-use Rattle.paper.proofs.Scan.{fault_taken, fault_none}
-use Rattle.marks.specs.Inner.{Faultless}
-use Rattle.marks.proofs.Checking.{length_11, faultless, above_13, then_deep}
+-- `check` meets its contract: none of the marks has a fault, or the two checks in turn. Assumes nothing.
+use Rattle.std.proofs.Common.{sym, ◌∙◌}
+use Rattle.std.proofs.lemmas.Result.{err_from_is_err_and}
+use Rattle.marks.proofs.Checking.{faultless, above_13, then_deep}
 use Rattle.marks.proofs.check.Goals as goal
 
-pub returns-then-levels-marks : goal.returns-then-levels-marks
-returns-then-levels-marks c =
+pub returns-then-all_sound : goal.returns-then-all_sound
+returns-then-all_sound c =
     let a = c.args in
-    record { stands = sym (length_11 a.highest a.levels.now a.marks.now c.if-levels-marks.true); unplaced = λ none. refl }
+    sym (faultless a.highest a.levels.now a.marks.now c.if-levels-marks.false (c.all_sound.ensures c.if-all_sound.true))
 
-pub worst-requires : goal.worst-requires
-worst-requires c = c.if-levels-marks.false
-
-pub returns-then-worst-eq0 : goal.returns-then-worst-eq0
-returns-then-worst-eq0 c =
+pub returns-in_err-none_above_two : goal.returns-in_err-none_above_two
+returns-in_err-none_above_two c =
     let a = c.args in
-    let clear = subst (Faultless a.highest a.levels.now a.marks.now (length a.marks.now)) c.if-worst-eq0.true c.worst.ensures in
-    record { stands = sym (faultless a.highest a.levels.now a.marks.now c.if-levels-marks.false clear); unplaced = λ none. refl }
-
-pub returns-then-above-ne0 : goal.returns-then-above-ne0
-returns-then-above-ne0 c =
-    let a = c.args in
-    let above = c.above_two-above in
-    let found = fault_taken above.result.number above.result.place passed c.if-above-ne0.true in
-    let many = c.if-levels-marks.false in
-    record {
-      stands = found ∙ sym (above_13 a.highest a.levels.now a.marks.now many _ _ (sym above.ensures ∙ found));
-      unplaced = λ none. absurd (c.if-above-ne0.true none);
-    }
-
-pub too_deep-deep-requires : goal.too_deep-deep-requires
-too_deep-deep-requires c = c.if-levels-marks.false
-
-pub returns-then-deep-ne0 : goal.returns-then-deep-ne0
-returns-then-deep-ne0 c =
-    let a = c.args in
-    let above = c.above_two-above in
-    let none = fault_none above.result.number above.result.place passed c.if-above-ne0.false in
-    record {
-      stands = c.too_deep-deep.ensures ∙ sym (then_deep a.highest a.levels.now a.marks.now c.if-levels-marks.false (sym above.ensures ∙ none));
-      unplaced = λ zero. absurd (c.if-deep-ne0.true zero);
-    }
+    let p = err_from_is_err_and c.from_residual.result c.from_residual.ensures.1 in
+    rw (p.1, p.2) (sym (above_13 a.highest a.levels.now a.marks.now c.if-levels-marks.false _ _ (sym c.in_err-none_above_two.ensures)))
 
 pub returns : goal.returns
 returns c =
     let a = c.args in
-    let above = c.above_two-above in
-    let deep = c.too_deep-deep in
-    let none = fault_none above.result.number above.result.place passed c.if-above-ne0.false in
-    record {
-      stands =
-          sym (fault_none deep.result.number deep.result.place passed c.if-deep-ne0.false)
-          ∙ deep.ensures ∙ sym (then_deep a.highest a.levels.now a.marks.now c.if-levels-marks.false (sym above.ensures ∙ none));
-      unplaced = λ zero. refl;
-    }
+    c.none_too_deep.ensures ∙ sym (then_deep a.highest a.levels.now a.marks.now c.if-levels-marks.false (sym c.in_ok-none_above_two.ensures))

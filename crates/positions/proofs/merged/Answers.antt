@@ -1,27 +1,8 @@
--- `merged` meets its contract: none of the positions before passes the bits. Assumes nothing.
-use native.Mathlib.Omega.{arith}
-use Rattle.positions.proofs.Checking.{merged_next}
+-- `merged` meets its contract: none of the positions before passes the bits, and the bits grow only. Assumes nothing.
+use Rattle.std.proofs.Common.{below_more, le_trans}
+use Rattle.std.proofs.lemmas.Nat.{le_or_l, le_or_r}
 use Rattle.positions.proofs.merged.Goals as goal
 
-pub loop-at-init : goal.loop-at-init
-loop-at-init c = (omega arith, λ j before. absurd (omega arith))
-
-pub offset_bounds-positions-at : goal.offset_bounds-positions-at
-offset_bounds-positions-at c = omega arith
-
-pub bounds-positions-at : goal.bounds-positions-at
-bounds-positions-at c = omega arith
-
-pub overflow_add-at : goal.overflow_add-at
-overflow_add-at c = omega arith
-
-pub loop-at-smaller : goal.loop-at-smaller
-loop-at-smaller c = omega arith
-
-pub loop-at-preserved : goal.loop-at-preserved
-loop-at-preserved c =
-    let now_at = c.loop-at in
-    (omega arith, merged_next c.args.positions.now now_at.bits now_at.at now_at.invariant.1)
-
-pub returns : goal.returns
-returns c = λ j inside. c.loop-at.invariant.1 j (omega (arith, c.loop-at-test.false))
+pub loop-position-preserved : goal.loop-position-preserved
+loop-position-preserved c =
+    below_more _ _ (λ j before. le_trans (c.loop-position.invariant j before) (le_or_l _ _)) (le_or_r _ _)

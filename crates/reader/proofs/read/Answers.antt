@@ -1,35 +1,30 @@
 -- `read` meets its contract: the columns, the front of the file, then its runs. Assumes nothing.
-use mathlib.Core.Path.{ap, ◌∙◌, sym}
-use Rattle.leaves.specs.Leaves.{columns}
-use Rattle.sounding.specs.Answers.{head_of}
-use Rattle.reader.proofs.Loading.{columns_equal, unequal, head_refused, head_read}
+use mathlib.Core.Path.{◌∙◌, sym}
+use Rattle.columns.specs.Lent.{held}
+use Rattle.sounding.specs.Answers.{front_of}
+use Rattle.reader.proofs.Loading.{runs_kept, no_room, room_enough, grid_read}
 use Rattle.reader.proofs.read.Goals as goal
 
-pub returns-then-not-equal_lengths : goal.returns-then-not-equal_lengths
-returns-then-not-equal_lengths c =
-    let a = c.args in
-    let m = columns a.roots.now a.levels.now a.positions.now in
-    unequal a.bytes.now m (sym c.equal_lengths.ensures ∙ c.if-not-equal_lengths.true)
+pub returns-then-lent-grid-clause-read : goal.returns-then-lent-grid-clause-read
+returns-then-lent-grid-clause-read c =
+    let m = held c.args.lent.now in
+    no_room c.args.bytes.now m (sym c.is_even.ensures ∙ c.if-not-is_even.false) (front_of c.in_ok-head.head) (sym c.in_ok-head.ensures)
+    c.sound-sounding.result c.sound-sounding.ensures c.in_ok-sounding.was c.if-lent-grid.true
 
-pub load-requires : goal.load-requires
-load-requires c =
-    let a = c.args in
-    let m = columns a.roots.now a.levels.now a.positions.now in
-    let both = columns_equal m (sym c.equal_lengths.ensures ∙ c.if-not-equal_lengths.false) in
-    record { roots_len = both.0; roots_len_2 = both.1 }
+pub columns-requires-clause-runs_sound : goal.columns-requires-clause-runs_sound
+columns-requires-clause-runs_sound c =
+    let m = held c.args.lent.now in
+    runs_kept c.args.bytes.now m (sym c.is_even.ensures ∙ c.if-not-is_even.false) (front_of c.in_ok-head.head) (sym c.in_ok-head.ensures)
+    c.sound-sounding.result c.sound-sounding.ensures c.in_ok-sounding.was
 
-pub returns-in-Is : goal.returns-in-Is
-returns-in-Is c =
-    let a = c.args in
-    let m = columns a.roots.now a.levels.now a.positions.now in
-    let equal = c.equal_lengths in
-    head_read a.bytes.now m (sym equal.ensures ∙ c.if-not-equal_lengths.false) _ _ _
-    (sym c.head_at.ensures ∙ ap head_of c.in-Is.is) c.load.ensures
+pub columns-requires-clause-room : goal.columns-requires-clause-room
+columns-requires-clause-room c =
+    let m = held c.args.lent.now in
+    room_enough c.args.bytes.now m (sym c.is_even.ensures ∙ c.if-not-is_even.false) (front_of c.in_ok-head.head) (sym c.in_ok-head.ensures)
+    c.sound-sounding.result c.sound-sounding.ensures c.in_ok-sounding.was c.if-lent-grid.false
 
-pub returns-in-Refused : goal.returns-in-Refused
-returns-in-Refused c =
-    let a = c.args in
-    let m = columns a.roots.now a.levels.now a.positions.now in
-    let equal = c.equal_lengths in
-    head_refused a.bytes.now m (sym equal.ensures ∙ c.if-not-equal_lengths.false) _ _
-    (sym c.head_at.ensures ∙ ap head_of c.in-Refused.is)
+pub returns-clause-read : goal.returns-clause-read
+returns-clause-read c =
+    let m = held c.args.lent.now in
+    grid_read c.args.bytes.now m (sym c.is_even.ensures ∙ c.if-not-is_even.false) (front_of c.in_ok-head.head) (sym c.in_ok-head.ensures)
+    c.sound-sounding.result c.sound-sounding.ensures c.in_ok-sounding.was c.if-lent-grid.false _ c.columns.ensures.filled

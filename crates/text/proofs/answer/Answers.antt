@@ -4,13 +4,8 @@ use native.Mathlib.Nat.{zero-add}
 use native.Mathlib.Omega.{arith}
 use Rattle.forms.specs.Forms.{form_of}
 use Rattle.text.specs.Inner.{spelled}
-use Rattle.text.proofs.Buffers.{no_room, prints}
+use Rattle.text.proofs.Buffers.{prints}
 use Rattle.text.proofs.answer.Goals as goal
-
-pub returns-then-out-size : goal.returns-then-out-size
-returns-then-out-size c =
-    let a = c.args in
-    no_room (spelled (form_of a.asked)) a.out.now c.print-size.result (c.print-size.ensures.end ∙ zero-add _) (omega (arith, c.if-out-size.true))
 
 pub returns : goal.returns
 returns c =

@@ -1,14 +1,8 @@
 -- `fill` meets its contract: the bytes before the gap, the 2, and the bytes after it. Assumes nothing.
-use mathlib.Core.Path.{sym}
-use lib.Seq.{length-take-le}
 use Rattle.converter.proofs.Fronts.{fill_gap}
 use Rattle.converter.proofs.fill.fill.Goals as goal
 
-pub slice_bounds-lay-end : goal.slice_bounds-lay-end
-slice_bounds-lay-end c =
-    sym (length-take-le c.args.at c.args.input.now c.requires.at_in_bounds)
-
 pub returns : goal.returns
 returns c =
-    fill_gap c.args.input.now c.args.line.now c.args.at c.requires.at_in_bounds c.requires.input_in_bounds _ _ _
+    fill_gap c.args.input.now c.args.room.now c.args.at c.requires.at_in_bounds c.requires.input_in_bounds _ _ _
     c.lay.ensures c.lay-2.ensures c.lay-3.ensures

@@ -1,46 +1,37 @@
 -- `seventh` meets its contract: before each byte, so many semicolons are to come. Assumes nothing.
-use mathlib.Core.Path.{subst⁻¹}
-use Prim.Native.Nat.{ℕ, ◌+◌}
+use mathlib.Core.Path.{◌≡◌, subst⁻¹}
+use Prim.Native.Nat.{ℕ, ◌+◌, ◌<◌}
 use native.Mathlib.Omega.{arith}
-use Rattle.converter.proofs.Seats.{Seat, seat_start, seat_here, seat_past, seat_over, seat_field, seat_on}
+use Rattle.converter.proofs.Seats.{Seat, seat_here, seat_past, seat_over, seat_field, seat_on}
 use Rattle.converter.proofs.fill.seventh.Goals as goal
-use Rattle.converter.proofs.fill.seventh.Goals.{then-input-i-eq59, else-input-i-eq59}
+use Rattle.converter.proofs.fill.seventh.Goals.{then-b-eq59+else-left-eq0, else-b-eq59}
 
-pub loop-left-init : goal.loop-left-init
-loop-left-init c = seat_start c.args.input.now
+some : (k : ℕ) → 0 < k → k ≡ 0 → ⊥
+some k low none = omega (arith, none)
 
-pub returns-then-input-i : goal.returns-then-input-i
-returns-then-input-i c =
-    seat_past c.loop-left.invariant c.loop-left-test.true c.if-input-i.true
+pub returns-then-b-eq10-clause-spot : goal.returns-then-b-eq10-clause-spot
+returns-then-b-eq10-clause-spot c =
+    let l = c.loop-i in
+    seat_over l.invariant.1 (some l.left l.invariant.0) c.loop-i-test.true c.if-b-eq10.true
 
-pub bounds-input-i : goal.bounds-input-i
-bounds-input-i c = omega arith
+pub returns-then-left-eq0-clause-spot : goal.returns-then-left-eq0-clause-spot
+returns-then-left-eq0-clause-spot c =
+    let l = c.loop-i in
+    seat_here (seat_field l.invariant.1 (some l.left l.invariant.0) c.loop-i-test.true c.if-b-eq59.true) c.if-left-eq0.true
 
-pub returns-then-input-i-eq10 : goal.returns-then-input-i-eq10
-returns-then-input-i-eq10 c =
-    seat_over c.loop-left.invariant c.loop-left-test.true c.if-input-i.false c.if-input-i-eq10.true
-
-pub bounds-input-i-in-loop-left : goal.bounds-input-i-in-loop-left
-bounds-input-i-in-loop-left c = omega arith
-
-pub overflow_sub-left : goal.overflow_sub-left
-overflow_sub-left c = omega arith
-
-pub overflow_add-i : goal.overflow_add-i
-overflow_add-i c = omega arith
-
-pub loop-left-smaller : goal.loop-left-smaller
-loop-left-smaller c = omega arith
-
-pub loop-left-preserved : goal.loop-left-preserved
-loop-left-preserved c =
-    let l = c.loop-left in
-    let seat = l.invariant in
+pub loop-i-preserved : goal.loop-i-preserved
+loop-i-preserved c =
+    let l = c.loop-i in
     let s = c.args.input.now in
-    elim c.if-input-i-eq59.branch [
-      | then-input-i-eq59 w ↦ subst⁻¹ (λ (k : ℕ). Seat s k (l.i + 1)) w.left-is (seat_field seat c.loop-left-test.true c.if-input-i.false w.if-input-i-eq59.true)
-      | else-input-i-eq59 w ↦ subst⁻¹ (λ (k : ℕ). Seat s k (l.i + 1)) w.left-is (seat_on seat c.loop-left-test.true c.if-input-i.false c.if-input-i-eq10.false w.if-input-i-eq59.false)
+    let low = some l.left l.invariant.0 in
+    elim c.if-b-eq59.branch [
+      | then-b-eq59+else-left-eq0 w ↦
+          (omega (arith, w.left-is, w.if-left-eq0.false), subst⁻¹ (λ (k : ℕ). Seat s k (l.i + 1)) w.left-is (seat_field l.invariant.1 low c.loop-i-test.true w.if-b-eq59.true))
+      | else-b-eq59 w ↦
+          (omega (arith, w.left-is), subst⁻¹ (λ (k : ℕ). Seat s k (l.i + 1)) w.left-is (seat_on l.invariant.1 low c.loop-i-test.true c.if-b-eq10.false w.if-b-eq59.false))
     ]
 
-pub returns : goal.returns
-returns c = seat_here c.loop-left.invariant c.loop-left-test.false
+pub returns-clause-spot : goal.returns-clause-spot
+returns-clause-spot c =
+    let l = c.loop-i in
+    seat_past l.invariant.1 (some l.left l.invariant.0) (omega (arith, c.loop-i-test.false))

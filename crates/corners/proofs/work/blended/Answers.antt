@@ -2,23 +2,14 @@
 use Prim.Native.Nat.{◌^◌}
 use native.Mathlib.Omega.{arith}
 use lib.Dec.{lit≤}
-use Rattle.corners.proofs.MachineWords.{first, apart, part, both, whole}
+use Rattle.corners.proofs.MachineWords.{part, both, whole}
 use Rattle.corners.proofs.work.blended.Goals as goal
-
-pub overflow_mul-result : goal.overflow_mul-result
-overflow_mul-result c = (first (2 ^ 30) c.args.t0 c.args.t1 (lit≤ tt) c.requires.0.tall0 c.requires.0.tall1).asks
-
-pub overflow_sub-result : goal.overflow_sub-result
-overflow_sub-result c = (apart (2 ^ 30) c.args.t0 c.args.t1 (lit≤ tt) c.requires.0.tall0 c.requires.0.tall1).asks
 
 pub overflow_mul-result-2 : goal.overflow_mul-result-2
 overflow_mul-result-2 c = (part (2 ^ 30) c.args.t0 c.args.t1 (lit≤ tt) c.requires.0.tall0 c.requires.0.tall1 c.args.x c.requires.1.1).asks
 
 pub overflow_add-result : goal.overflow_add-result
 overflow_add-result c = (both (2 ^ 30) c.args.t0 c.args.t1 (lit≤ tt) c.requires.0.tall0 c.requires.0.tall1 c.args.x c.requires.1.1).asks
-
-pub overflow_sub-result-2 : goal.overflow_sub-result-2
-overflow_sub-result-2 c = (apart (2 ^ 30) c.args.t1 c.args.t2 (lit≤ tt) c.requires.0.tall1 c.requires.0.tall2).asks
 
 pub overflow_mul-result-3 : goal.overflow_mul-result-3
 overflow_mul-result-3 c = (part (2 ^ 30) c.args.t1 c.args.t2 (lit≤ tt) c.requires.0.tall1 c.requires.0.tall2 c.args.y (omega arith)).asks

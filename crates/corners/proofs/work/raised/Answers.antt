@@ -1,13 +1,7 @@
 -- `raised` meets its contract: both ends lie from -512 to 512, so no product or sum leaves a word. Assumes nothing.
 use lib.Dec.{lit≤}
-use Rattle.corners.proofs.MachineWords.{first, apart, part, both}
+use Rattle.corners.proofs.MachineWords.{part, both}
 use Rattle.corners.proofs.work.raised.Goals as goal
-
-pub overflow_mul-result : goal.overflow_mul-result
-overflow_mul-result c = (first 512 c.args.low c.args.high (lit≤ tt) c.requires.0 c.requires.1.0).asks
-
-pub overflow_sub-result : goal.overflow_sub-result
-overflow_sub-result c = (apart 512 c.args.low c.args.high (lit≤ tt) c.requires.0 c.requires.1.0).asks
 
 pub overflow_mul-result-2 : goal.overflow_mul-result-2
 overflow_mul-result-2 c = (part 512 c.args.low c.args.high (lit≤ tt) c.requires.0 c.requires.1.0 c.args.z c.requires.1.1).asks

@@ -1,17 +1,12 @@
 -- `shrunk` meets its contract: up to 2^51 the number is an f64 without loss, and the literal is 2^-42. Assumes nothing.
-use mathlib.Core.Path.{ap, ◌∙◌, subst⁻¹}
+use mathlib.Core.Path.{ap, ◌∙◌}
 use mathlib.Core.Bool.{false}
-use lib.Dec.{T}
 use lib.IntN.{ℤ, negsuc}
-use lib.Ieee.{fin, binary64, in_float, of_int, of_bits, mul}
+use lib.Ieee.{fin, binary64, of_int, of_bits, mul}
 use mir.Syntax.{w64}
 use mir.ValLaws.{to_z-of_z}
-use Rattle.corners.proofs.Exact.{in_float_lem, product}
+use Rattle.corners.proofs.Exact.{product}
 use Rattle.corners.proofs.work.shrunk.Goals as goal
-
-pub int_to_float-result : goal.int_to_float-result
-int_to_float-result c =
-    subst⁻¹ (λ (z : ℤ). T (in_float binary64 z)) (to_z-of_z w64 c.args.q c.ranges.q) (in_float_lem c.args.q c.requires)
 
 pub returns : goal.returns
 unfolding of_bits

@@ -1,87 +1,81 @@
 -- `columns` meets its contract: each turn stores the leaves of one run more. Assumes nothing.
-use mathlib.Core.Path.{refl}
-use Prim.Native.Nat.{◌^◌}
+use mathlib.Core.Path.{◌≡◌, refl}
+use Prim.Native.Nat.{◌-◌, ◌+◌}
+use native.Mathlib.Nat.{sub-zero}
 use native.Mathlib.Omega.{arith}
 use lib.Pow.{pow_pos}
-use Rattle.sounding.specs.Answers.{spot_of}
-use Rattle.reader.proofs.Underway.{underway_start, turn_is, roots_kept, levels_kept, positions_kept, underway_all}
+use Rattle.reader.proofs.Loans.{loans_kept, loans_after}
+use Rattle.reader.proofs.Underway.{underway_start, level_there, level_low, count_there, turn_is, roots_kept, levels_kept, positions_kept, underway_all}
 use Rattle.reader.proofs.fill.columns.Goals as goal
 
-pub loop-left-init : goal.loop-left-init
-loop-left-init c =
-    let a = c.args in
-    underway_start (2 ^ a.bits) a.highest a.k (pow_pos a.bits) a.bytes.now _ _ a.runs a.at refl c.requires.at_value
+pub loop-run-init : goal.loop-run-init
+loop-run-init c =
+    let h = c.args.head in
+    record {
+      loans = loans_kept c.args.lent.now;
+      underway = rw (sub-zero h.runs) (underway_start 8 21 h.roots (pow_pos 3) c.args.bytes.now _ _ h.runs h.at refl c.requires.runs_sound);
+    }
 
-pub run-come-requires : goal.run-come-requires
-run-come-requires c =
-    let a = c.args in
-    let l = c.loop-left in
-    let pair = c.pair_at-pair in
+pub unwrap-level-requires : goal.unwrap-level-requires
+unwrap-level-requires c =
+    let bs = c.args.bytes.now in
+    let under = c.loop-run.invariant.underway in
+    level_there 8 21 c.args.head.roots (pow_pos 3) bs _ _ _ _ _ _ _ under (omega arith) _ c.number_at.ensures
+
+pub unwrap-count-requires : goal.unwrap-count-requires
+unwrap-count-requires c =
+    let bs = c.args.bytes.now in
+    let under = c.loop-run.invariant.underway in
+    count_there 8 21 c.args.head.roots (pow_pos 3) bs _ _ _ _ _ _ _ under (omega arith) _ _ c.number_at.ensures c.unwrap-level.ensures _ c.number_at-in-loop-run.ensures
+
+pub overflow_cast-level : goal.overflow_cast-level
+overflow_cast-level c =
+    let bs = c.args.bytes.now in
+    let under = c.loop-run.invariant.underway in
+    omega (arith, level_low 8 21 c.args.head.roots (pow_pos 3) bs _ _ _ _ _ _ _ under (omega arith) _ _ c.number_at.ensures c.unwrap-level.ensures)
+
+pub run-come-requires-clause-running : goal.run-come-requires-clause-running
+run-come-requires-clause-running c =
+    let bs = c.args.bytes.now in
+    let under = c.loop-run.invariant.underway in
     let turn =
-    turn_is (2 ^ a.bits) a.highest a.k (pow_pos a.bits) a.bytes.now _ _ l.left l.at (spot_of l.come) l.size _ l.invariant
-    (omega (arith, c.ranges.highest)) (omega (arith, c.loop-left-test.true)) pair.result.level pair.result.count pair.result.next pair.ensures in
-    let room = c.requires.room in record {
-      running = record {
-        narrow = c.requires.highest_bound;
-        shallow = turn.shallow;
-        proper = l.invariant.proper;
-        whole = turn.whole;
-        low = omega (arith, turn.root_after, c.ranges.k);
-      };
-      room = record {
-        in_roots = omega (arith, turn.room, room.in_roots, roots_kept (2 ^ a.bits) a.highest a.k (pow_pos a.bits) a.bytes.now _ _ _ _ _ _ _ l.invariant room);
-        in_levels = omega (arith, turn.room, room.in_levels, levels_kept (2 ^ a.bits) a.highest a.k (pow_pos a.bits) a.bytes.now _ _ _ _ _ _ _ l.invariant room);
-        in_positions = omega (arith, turn.room, room.in_positions, positions_kept (2 ^ a.bits) a.highest a.k (pow_pos a.bits) a.bytes.now _ _ _ _ _ _ _ l.invariant room);
-      };
+    turn_is 8 21 c.args.head.roots (pow_pos 3) bs _ _ _ _ _ _ _ under (omega arith) _ _ c.number_at.ensures c.unwrap-level.ensures _ c.number_at-in-loop-run.ensures _ c.unwrap-count.ensures in
+    record { shallow = turn.shallow; proper = under.proper; whole = turn.whole; low = omega (arith, turn.root_after, c.well_formed) }
+
+pub run-come-requires-clause-room : goal.run-come-requires-clause-room
+run-come-requires-clause-room c =
+    let bs = c.args.bytes.now in
+    let under = c.loop-run.invariant.underway in
+    let turn =
+    turn_is 8 21 c.args.head.roots (pow_pos 3) bs _ _ _ _ _ _ _ under (omega arith) _ _ c.number_at.ensures c.unwrap-level.ensures _ c.number_at-in-loop-run.ensures _ c.unwrap-count.ensures in
+    let room = c.requires.room in
+    record {
+      in_roots = omega (arith, turn.room, room.in_roots, roots_kept 8 21 c.args.head.roots (pow_pos 3) bs _ _ _ _ _ _ _ under room);
+      in_levels = omega (arith, turn.room, room.in_levels, levels_kept 8 21 c.args.head.roots (pow_pos 3) bs _ _ _ _ _ _ _ under room);
+      in_positions = omega (arith, turn.room, room.in_positions, positions_kept 8 21 c.args.head.roots (pow_pos 3) bs _ _ _ _ _ _ _ under room);
     }
 
 pub overflow_add-size : goal.overflow_add-size
 overflow_add-size c =
-    let a = c.args in
-    let l = c.loop-left in
-    let pair = c.pair_at-pair in
+    let bs = c.args.bytes.now in
+    let under = c.loop-run.invariant.underway in
     let turn =
-    turn_is (2 ^ a.bits) a.highest a.k (pow_pos a.bits) a.bytes.now _ _ l.left l.at (spot_of l.come) l.size _ l.invariant
-    (omega (arith, c.ranges.highest)) (omega (arith, c.loop-left-test.true)) pair.result.level pair.result.count pair.result.next pair.ensures in
+    turn_is 8 21 c.args.head.roots (pow_pos 3) bs _ _ _ _ _ _ _ under (omega arith) _ _ c.number_at.ensures c.unwrap-level.ensures _ c.number_at-in-loop-run.ensures _ c.unwrap-count.ensures in
     omega (arith, turn.few)
 
-pub overflow_sub-left : goal.overflow_sub-left
-overflow_sub-left c = omega (arith, c.loop-left-test.true)
-
-pub loop-left-smaller : goal.loop-left-smaller
-loop-left-smaller c = omega (arith, c.loop-left-test.true)
-
-pub loop-left-preserved : goal.loop-left-preserved
-loop-left-preserved c =
-    let a = c.args in
-    let l = c.loop-left in
-    let pair = c.pair_at-pair in
+pub loop-run-preserved : goal.loop-run-preserved
+loop-run-preserved c =
+    let bs = c.args.bytes.now in
+    let under = c.loop-run.invariant.underway in
     let turn =
-    turn_is (2 ^ a.bits) a.highest a.k (pow_pos a.bits) a.bytes.now _ _ l.left l.at (spot_of l.come) l.size _ l.invariant
-    (omega (arith, c.ranges.highest)) (omega (arith, c.loop-left-test.true)) pair.result.level pair.result.count pair.result.next pair.ensures in
-    let laid = c.run-come.ensures in
-    turn.more _ c.requires.room _ laid.ends laid.memory
+    turn_is 8 21 c.args.head.roots (pow_pos 3) bs _ _ _ _ _ _ _ under (omega arith) _ _ c.number_at.ensures c.unwrap-level.ensures _ c.number_at-in-loop-run.ensures _ c.unwrap-count.ensures in
+    let left = c.args.head.runs - c.loop-run._run in
+    let less : c.args.head.runs - (c.loop-run._run + 1) ≡ left - 1 = omega arith in
+    record {
+      loans = loans_after _ _ _ c.loop-run.invariant.loans c.run-come.ensures.loans;
+      underway = rw less (turn.more _ c.requires.room _ c.run-come.ensures.laid.ends c.run-come.ensures.laid.memory);
+    }
 
-pub shape_of-roots : goal.shape_of-roots
-shape_of-roots c =
-    let a = c.args in
-    let l = c.loop-left in
-    roots_kept (2 ^ a.bits) a.highest a.k (pow_pos a.bits) a.bytes.now _ _ _ _ _ _ _ l.invariant c.requires.room
-
-pub shape_of-levels : goal.shape_of-levels
-shape_of-levels c =
-    let a = c.args in
-    let l = c.loop-left in
-    levels_kept (2 ^ a.bits) a.highest a.k (pow_pos a.bits) a.bytes.now _ _ _ _ _ _ _ l.invariant c.requires.room
-
-pub shape_of-positions : goal.shape_of-positions
-shape_of-positions c =
-    let a = c.args in
-    let l = c.loop-left in
-    positions_kept (2 ^ a.bits) a.highest a.k (pow_pos a.bits) a.bytes.now _ _ _ _ _ _ _ l.invariant c.requires.room
-
-pub returns : goal.returns
-returns c =
-    let a = c.args in
-    let l = c.loop-left in
-    underway_all (2 ^ a.bits) a.highest a.k (pow_pos a.bits) a.bytes.now _ _ _ _ _ _ _ l.invariant (omega (arith, c.loop-left-test.false))
+pub returns-clause-filled : goal.returns-clause-filled
+returns-clause-filled c =
+    underway_all 8 21 c.args.head.roots (pow_pos 3) c.args.bytes.now _ _ _ _ _ _ _ c.loop-run.invariant.underway (omega arith)

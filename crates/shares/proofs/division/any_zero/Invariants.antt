@@ -1,14 +1,10 @@
 -- `any_zero` meets its contract: as long as no weight was 0, the checks are those of the weights from i on. Assumes nothing.
 use mathlib.Core.Path.{◌≡◌}
 use mathlib.Core.Bool.{false}
-use Prim.Native.Nat.{◌-◌, ◌≤◌}
-use lib.ListN.{length, drop}
+use lib.ListN.{drop}
 use Rattle.paper.specs.Outcome.{passed, checks, scan}
 use Rattle.shares.specs.Calls.{weight_fault}
 use Rattle.shares.proofs.division.any_zero.Given as goal
 
-abbrev pub invariant-loop-i : goal.invariant-loop-i
-invariant-loop-i l = (l.i ≤ length l.weights) × (l.any ≡ false → checks weight_fault l.weights ≡ scan weight_fault l.i (drop l.i l.weights) passed)
-
-abbrev pub decreases-loop-i : goal.decreases-loop-i
-decreases-loop-i l = length l.weights - l.i
+abbrev pub invariant-loop-weight : goal.invariant-loop-weight
+invariant-loop-weight l = l.any ≡ false → checks weight_fault l.weights ≡ scan weight_fault l.weight-index (drop l.weight-index l.weights) passed

@@ -1,13 +1,9 @@
 -- `first_zero` meets its contract: the weights before i are no fault, so the checks are those of the weights from i on. Assumes nothing.
 use mathlib.Core.Path.{◌≡◌}
-use Prim.Native.Nat.{◌-◌, ◌≤◌}
-use lib.ListN.{length, drop}
+use lib.ListN.{drop}
 use Rattle.paper.specs.Outcome.{passed, checks, scan}
 use Rattle.shares.specs.Calls.{weight_fault}
 use Rattle.shares.proofs.division.first_zero.Given as goal
 
 abbrev pub invariant-loop-i : goal.invariant-loop-i
-invariant-loop-i l = (l.i ≤ length l.weights) × (checks weight_fault l.weights ≡ scan weight_fault l.i (drop l.i l.weights) passed)
-
-abbrev pub decreases-loop-i : goal.decreases-loop-i
-decreases-loop-i l = length l.weights - l.i
+invariant-loop-i l = checks weight_fault l.weights ≡ scan weight_fault l.i (drop l.i l.weights) passed

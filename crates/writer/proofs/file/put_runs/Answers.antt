@@ -1,58 +1,39 @@
 -- `put_runs` meets its contract: each turn stores the pair of one run more. Assumes nothing.
 use native.Mathlib.Omega.{arith}
+use Rattle.writer.specs.Runs.{key_count, runs_left}
+use Rattle.writer.proofs.Writing.{leaves_few, pair_leaves}
 use Rattle.writer.proofs.Putting.{stored_none, stored_next, stored_done, room_run, room_count}
 use Rattle.writer.proofs.file.put_runs.Goals as goal
 
-pub loop-i-init : goal.loop-i-init
-loop-i-init c =
+pub loop-run-init : goal.loop-run-init
+loop-run-init c =
     let a = c.args in
-    stored_none a.levels.now a.start a.bytes.now c.requires.levels_in_bounds
+    rw c.into_iter-run-iterator.ensures.into_iter_gives
+    (stored_none _ a.start a.bytes.now (leaves_few a.levels.now c.requires.levels_len_bound) c.requires.levels_in_bounds)
 
-pub end-end-requires : goal.end-end-requires
-end-end-requires c = c.loop-i-test.true
+pub put-at-requires-clause-v_in_bounds : goal.put-at-requires-clause-v_in_bounds
+put-at-requires-clause-v_in_bounds c =
+    rw c.from.ensures
+    (omega (arith, room_run _ _ _ (key_count c.in-Some.run') (runs_left c.next.new.self) _ c.in-Some.ensures.steps c.loop-run.at c.loop-run.bytes c.loop-run.invariant))
 
-pub overflow_cast-level : goal.overflow_cast-level
-overflow_cast-level c = omega (arith, c.type_inv.levels c.loop-i.i)
+pub overflow_cast-run : goal.overflow_cast-run
+overflow_cast-run c =
+    omega (arith, pair_leaves (key_count c.in-Some.run') (runs_left c.next.new.self) _ c.in-Some.ensures.steps c.loop-run.invariant.leaves)
 
-pub overflow_sub-count : goal.overflow_sub-count
-overflow_sub-count c = omega (arith, c.end-end.ensures.alike.some)
+pub put-at-requires-in-loop-run-clause-v_le_highest : goal.put-at-requires-in-loop-run-clause-v_le_highest
+put-at-requires-in-loop-run-clause-v_le_highest c =
+    omega (arith, pair_leaves (key_count c.in-Some.run') (runs_left c.next.new.self) _ c.in-Some.ensures.steps c.loop-run.invariant.leaves)
 
-pub overflow_cast-count : goal.overflow_cast-count
-overflow_cast-count c = omega (arith, c.end-end.ensures.alike.within, c.requires.levels_len_bound)
+pub put-at-requires-in-loop-run-clause-v_in_bounds : goal.put-at-requires-in-loop-run-clause-v_in_bounds
+put-at-requires-in-loop-run-clause-v_in_bounds c =
+    room_count _ _ _ (key_count c.in-Some.run') (runs_left c.next.new.self) _ c.in-Some.ensures.steps c.loop-run.at c.loop-run.bytes c.loop-run.invariant
+    c.put-at.result (rw c.from.ensures at c.put-at.ensures.next) (rw c.from.ensures at c.put-at.ensures.stored)
 
-pub put-requires : goal.put-requires
-put-requires c =
-    let a = c.args in
-    record { v_le_highest = omega (arith, c.type_inv.levels c.loop-i.i); v_in_bounds = omega (arith, room_run a.levels.now a.start a.bytes.now c.loop-i.i c.loop-i.at c.loop-i.bytes c.loop-i.invariant c.end-end.result c.end-end.ensures) }
-
-pub overflow_add-at : goal.overflow_add-at
-overflow_add-at c =
-    let a = c.args in
-    omega (arith, c.size-at.ensures, room_run a.levels.now a.start a.bytes.now c.loop-i.i c.loop-i.at c.loop-i.bytes c.loop-i.invariant c.end-end.result c.end-end.ensures)
-
-pub put-requires-in-loop-i : goal.put-requires-in-loop-i
-put-requires-in-loop-i c =
-    let a = c.args in
-    record { v_le_highest = omega (arith, c.end-end.ensures.alike.within, c.requires.levels_len_bound); v_in_bounds = room_count a.levels.now a.start a.bytes.now c.loop-i.i c.loop-i.at c.loop-i.bytes c.loop-i.invariant c.end-end.result c.end-end.ensures c.size-at.result c.size-at.ensures c.put.ensures }
-
-pub overflow_add-at-in-loop-i : goal.overflow_add-at-in-loop-i
-overflow_add-at-in-loop-i c =
-    let a = c.args in
-    omega (arith, c.size-at.ensures, c.size-at-in-loop-i.ensures, room_run a.levels.now a.start a.bytes.now c.loop-i.i c.loop-i.at c.loop-i.bytes c.loop-i.invariant c.end-end.result c.end-end.ensures)
-
-pub loop-i-smaller : goal.loop-i-smaller
-loop-i-smaller c =
-    omega (arith, c.end-end.ensures.alike.some, c.end-end.ensures.alike.within)
-
-pub loop-i-preserved : goal.loop-i-preserved
-loop-i-preserved c =
-    let a = c.args in
-    stored_next a.levels.now a.start a.bytes.now c.loop-i.i c.loop-i.at c.loop-i.bytes c.loop-i.invariant c.end-end.result c.end-end.ensures c.size-at.result c.size-at.ensures c.put.ensures c.size-at-in-loop-i.result c.size-at-in-loop-i.ensures c.put-in-loop-i.ensures
-
-pub shape_of-bytes : goal.shape_of-bytes
-shape_of-bytes c = c.loop-i.invariant.long
+pub loop-run-preserved : goal.loop-run-preserved
+loop-run-preserved c =
+    stored_next _ _ _ (key_count c.in-Some.run') (runs_left c.next.new.self) _ c.in-Some.ensures.steps c.loop-run.at c.loop-run.bytes c.loop-run.invariant
+    c.put-at.result (rw c.from.ensures at c.put-at.ensures.next) (rw c.from.ensures at c.put-at.ensures.stored)
+    c.put-at-in-loop-run.result c.put-at-in-loop-run.ensures.next c.put-at-in-loop-run.ensures.stored
 
 pub returns : goal.returns
-returns c =
-    let a = c.args in
-    stored_done a.levels.now a.start a.bytes.now c.loop-i.i c.loop-i.at c.loop-i.bytes c.loop-i.invariant c.loop-i-test.false
+returns c = stored_done _ _ _ _ c.loop-run.at c.loop-run.bytes c.loop-run.invariant c.in-None.ensures.steps.0

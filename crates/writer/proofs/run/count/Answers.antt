@@ -1,47 +1,35 @@
--- `count` meets its contract: the runs before leaf i, and those after it, are all. Assumes nothing.
-use Prim.Native.Nat.{◌-◌}
+-- `count` meets its contract: the runs so far, and those that are left, are all. Assumes nothing.
 use native.Mathlib.Omega.{arith}
-use lib.ListN.{get_or}
-use borrow.Author.Rules.{rules}
 use Rattle.numbers.proofs.Cases.{few_bytes}
-use Rattle.writer.proofs.Writing.{along_none, along_few, along_next, along_done}
+use Rattle.writer.specs.Runs.{key_count, runs_left}
+use Rattle.writer.proofs.Writing.{pair_leaves, along_none, along_next, along_few, along_done}
 use Rattle.writer.proofs.run.count.Goals as goal
 
-pub loop-i-init : goal.loop-i-init
-loop-i-init c = along_none c.args.levels.now
+pub loop-run-init : goal.loop-run-init
+loop-run-init c = rw c.into_iter-run-iterator.ensures.into_iter_gives (along_none c.args.levels.now c.requires)
 
-pub end-end-requires : goal.end-end-requires
-end-end-requires c = c.loop-i-test.true
+pub overflow_add-runs : goal.overflow_add-runs
+overflow_add-runs c = omega (arith, along_few c.args.levels.now _ c.loop-run.runs c.loop-run.bytes c.requires c.loop-run.invariant)
 
-pub overflow_add-count : goal.overflow_add-count
-overflow_add-count c =
-    let few = along_few c.args.levels.now c.loop-i.i c.loop-i.count c.loop-i.bytes c.loop-i.invariant c.requires in search rules
+pub overflow_cast-run : goal.overflow_cast-run
+overflow_cast-run c =
+    omega (arith, pair_leaves (key_count c.in-Some.run') (runs_left c.next.new.self) _ c.in-Some.ensures.steps c.loop-run.invariant.leaves)
 
-pub overflow_cast-levels : goal.overflow_cast-levels
-overflow_cast-levels c = omega (arith, c.type_inv.levels c.loop-i.i)
+pub overflow_add-bytes-in-loop-run : goal.overflow_add-bytes-in-loop-run
+overflow_add-bytes-in-loop-run c =
+    omega (
+      arith,
+      along_few c.args.levels.now _ c.loop-run.runs c.loop-run.bytes c.requires c.loop-run.invariant,
+      c.size.ensures,
+      c.size-in-loop-run.ensures,
+      few_bytes c.from.result,
+      few_bytes c.in-Some.run'.count,
+    )
 
-pub overflow_sub-end : goal.overflow_sub-end
-overflow_sub-end c = omega (arith, c.end-end.ensures.alike.some)
-
-pub overflow_cast-end : goal.overflow_cast-end
-overflow_cast-end c = omega (arith, c.end-end.ensures.alike.within, c.requires)
-
-pub overflow_add-bytes : goal.overflow_add-bytes
-overflow_add-bytes c =
-    omega (arith, c.size.ensures, c.size-in-loop-i.ensures, few_bytes (get_or c.args.levels.now c.loop-i.i 0), few_bytes (c.end-end.result - c.loop-i.i))
-
-pub overflow_add-bytes-in-loop-i : goal.overflow_add-bytes-in-loop-i
-overflow_add-bytes-in-loop-i c =
-    let a = c.args in
-    let few = along_few a.levels.now c.loop-i.i c.loop-i.count c.loop-i.bytes c.loop-i.invariant c.requires in omega (arith, few, c.size.ensures, c.size-in-loop-i.ensures, few_bytes (get_or a.levels.now c.loop-i.i 0), few_bytes (c.end-end.result - c.loop-i.i))
-
-pub loop-i-smaller : goal.loop-i-smaller
-loop-i-smaller c = omega (arith, c.end-end.ensures.alike.some, c.end-end.ensures.alike.within)
-
-pub loop-i-preserved : goal.loop-i-preserved
-loop-i-preserved c =
-    rw (c.size.ensures, c.size-in-loop-i.ensures) (along_next c.args.levels.now c.loop-i.i c.loop-i.count c.loop-i.bytes c.loop-i.invariant c.end-end.result c.end-end.ensures)
+pub loop-run-preserved : goal.loop-run-preserved
+loop-run-preserved c =
+    rw (c.size.ensures, c.size-in-loop-run.ensures, c.from.ensures)
+    (along_next (key_count c.in-Some.run') (runs_left c.next.new.self) _ c.in-Some.ensures.steps _ _ _ c.loop-run.invariant)
 
 pub returns : goal.returns
-returns c =
-    along_done c.args.levels.now c.loop-i.i c.loop-i.count c.loop-i.bytes c.loop-i.invariant c.loop-i-test.false
+returns c = along_done c.args.levels.now _ c.loop-run.runs c.loop-run.bytes c.loop-run.invariant c.in-None.ensures.steps.0

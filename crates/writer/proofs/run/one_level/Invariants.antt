@@ -1,12 +1,6 @@
--- `one_level` meets its contract: while it is true, the levels before t are the one given. Assumes nothing.
-use mathlib.Core.Path.{◌≡◌}
-use mathlib.Core.Bool.{true}
-use Prim.Native.Nat.{◌-◌, ◌≤◌}
-use Rattle.writer.specs.Inner.{OneLevel}
+-- `one_level` meets its contract: while it is true, the levels so far are the one given. Assumes nothing.
+use Rattle.std.proofs.Common.{◌≡◌, true, ℕ, ◌<◌, get_or}
 use Rattle.writer.proofs.run.one_level.Given as goal
 
-abbrev pub invariant-loop-t : goal.invariant-loop-t
-invariant-loop-t l = (l.t ≤ 64) × (l.same ≡ true → OneLevel l.levels l.level l.from l.t)
-
-abbrev pub decreases-loop-t : goal.decreases-loop-t
-decreases-loop-t l = 64 - l.t
+abbrev pub invariant-loop-l : goal.invariant-loop-l
+invariant-loop-l l = l.same ≡ true → (t : ℕ) → t < l.l-index → get_or l.block t 0 ≡ l.level

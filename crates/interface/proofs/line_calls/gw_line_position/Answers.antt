@@ -1,7 +1,0 @@
--- `gw_line_position` meets its contract: the result of the call's outcome. Assumes nothing.
-use mathlib.Core.Path.{ap, ◌∙◌}
-use Rattle.results.specs.Results.{number_result}
-use Rattle.interface.proofs.line_calls.gw_line_position.Goals as goal
-
-pub returns : goal.returns
-returns c = c.of_number.ensures ∙ ap number_result c.position.ensures

@@ -1,7 +1,0 @@
--- `gw_list_balanced` meets its contract: the result of the call's outcome. Assumes nothing.
-use mathlib.Core.Path.{ap, ◌∙◌}
-use Rattle.results.specs.Results.{truth_result}
-use Rattle.interface.proofs.list_calls.gw_list_balanced.Goals as goal
-
-pub returns : goal.returns
-returns c = c.of_truth.ensures ∙ ap truth_result c.balanced.ensures
