@@ -57,34 +57,53 @@ module _ (k : ℕ) (cs : Columns) (ms : List ℕ) (m : Columns) where
       pub marks_refused : (fault spot : ℕ) → check_marks 21 cs.levels ms ≡ refused fault spot → call ≡ refused fault spot
       marks_refused fault spot h = onward ∙ marked_refused 21 cs.levels ms _ fault spot (sym checked ∙ h)
 
-      module _ (right : check_marks 21 cs.levels ms ≡ passed) where
-        marks_right : marked 21 cs.levels ms passed ≡ passed
-        marks_right = sym checked ∙ right
+  -- ---- the tests before the length, all passed
+  pub record Cleared : Type 0 where
+    pub long : room cs ≡ length ms
+    pub equal : equal_columns m ≡ true
+    pub sound : check_list 8 21 k cs ≡ passed
+    pub right : check_marks 21 cs.levels ms ≡ passed
 
-        pub list_ready : Ready 8 cs ms
-        list_ready = ready 3 21 k (omega arith) (omega arith) cs ms list_valid long marks_right
+  pub cleared : {n : ℕ} {list : Columns} → n ≡ room cs → n ≡ length ms → true ≡ equal_columns m → passed ≡ check_list 8 21 k cs → list ≡ cs
+      → passed ≡ check_marks 21 list.levels ms → Cleared
+  cleared entries long even sound view right =
+      record {
+        long = sym entries ∙ long;
+        equal = sym even;
+        sound = sym sound;
+        right = sym (right ∙ ap (λ (v : Columns). check_marks 21 v.levels ms) view);
+      }
 
-        sized : call ≡ refuse_when (ltb limit (length result)) 15 (room_for (length result) (room m) result)
-        sized = onward ∙ marked_passed 21 cs.levels ms _ marks_right
+  module _ (s : Cleared) where
+    open s use {long, equal, sound, right}
 
-        module _ (size : ℕ) (exact : size ≡ length result) where
-          pub too_many_15 : limit < size → call ≡ refused 15 0
-          too_many_15 over = sized ∙ simp (lt-ltb limit (length result) (omega arith))
+    marks_right : marked 21 cs.levels ms passed ≡ passed
+    marks_right = sym (checked long equal sound) ∙ right
 
-          module _ (few : size ≤ limit) where
-            pub no_room_14 : room m < size → call ≡ refused 14 size
-            no_room_14 short =
-                sized ∙ simp (le-ltb limit (length result) (omega arith), lt-ltb (room m) (length result) (omega arith)) (ap (refused 14) (sym exact))
+    pub list_ready : Ready 8 cs ms
+    list_ready = ready 3 21 k (omega arith) (omega arith) cs ms (list_valid long equal sound) long marks_right
 
-            module _ (enough : size ≤ room m) where
-              pub room_for_all : Room (length result) m
-              room_for_all =
-                  let both = (and-eq-true_iff (eqb (length m.roots) (length m.levels)) (eqb (length m.roots) (length m.positions))).0 equal in
-                  let same_levels = eqb-true (length m.roots) (length m.levels) both.0 in
-                  let same_positions = eqb-true (length m.roots) (length m.positions) both.1 in
-                  record { in_roots = omega arith; in_levels = omega arith; in_positions = omega arith }
+    sized : call ≡ refuse_when (ltb limit (length result)) 15 (room_for (length result) (room m) result)
+    sized = onward long equal sound ∙ marked_passed 21 cs.levels ms _ marks_right
 
-              pub is_adapted : (m' : Columns) → m' ≡ front result m → Adapted k (Ok size) cs ms m m'
-              is_adapted m' f =
-                  accepts outcome_of length front call (Ok size) m result m'
-                  (sized ∙ simp (le-ltb limit (length result) (omega arith), le-ltb (room m) (length result) (omega arith))) (ap accepted exact) f
+    module _ (size : ℕ) (exact : size ≡ length result) where
+      pub too_many_15 : limit < size → call ≡ refused 15 0
+      too_many_15 over = sized ∙ simp (lt-ltb limit (length result) (omega arith))
+
+      module _ (few : size ≤ limit) where
+        pub no_room_14 : room m < size → call ≡ refused 14 size
+        no_room_14 short =
+            sized ∙ simp (le-ltb limit (length result) (omega arith), lt-ltb (room m) (length result) (omega arith)) (ap (refused 14) (sym exact))
+
+        module _ (enough : size ≤ room m) where
+          pub room_for_all : Room (length result) m
+          room_for_all =
+              let both = (and-eq-true_iff (eqb (length m.roots) (length m.levels)) (eqb (length m.roots) (length m.positions))).0 equal in
+              let same_levels = eqb-true (length m.roots) (length m.levels) both.0 in
+              let same_positions = eqb-true (length m.roots) (length m.positions) both.1 in
+              record { in_roots = omega arith; in_levels = omega arith; in_positions = omega arith }
+
+          pub is_adapted : (m' : Columns) → m' ≡ front result m → Adapted k (Ok size) cs ms m m'
+          is_adapted m' f =
+              accepts outcome_of length front call (Ok size) m result m'
+              (sized ∙ simp (le-ltb limit (length result) (omega arith), le-ltb (room m) (length result) (omega arith))) (ap accepted exact) f

@@ -8,6 +8,7 @@ use native.Mathlib.Nat.{add-zero}
 use native.Mathlib.Omega.{arith}
 use lib.ListN.{length, get_or}
 use borrow.Author.Tests.{ne_eqb}
+use Rattle.std.proofs.Math.Nat.{pos_of_ne-zero}
 use Rattle.leaves.specs.Leaves.{Leaf, nth, Columns, leaf_at, leaves, room}
 use Rattle.leaves.proofs.Columns.{nth_leaves, leaves_length}
 use Rattle.marks.specs.Marks.{mark}
@@ -66,7 +67,7 @@ module _ (n : ℕ) (positive : 0 < n) (cs : Columns) (ms : List ℕ) where
     pub begins_family : Ready n cs ms → ((leaf_at cs i).level ≡ 0 → ⊥) → (leaf_at cs i).position % n ≡ 0 → n ≤ room cs - i → Alike cs.levels ms i n
         → merging n (leaves cs) ms i ≡ true
     begins_family ready deep first room alike =
-        let deep_at : 0 < (nth (leaves cs) i).level = rw (level_at i inside) (above deep) in
+        let deep_at : 0 < (nth (leaves cs) i).level = rw (level_at i inside) (pos_of_ne-zero deep) in
         let room_at : i + n ≤ length (leaves cs) = omega (arith, leaves_length cs) in
         is_merging n (leaves cs) ms i (record {
           deep = deep_at;
@@ -75,9 +76,6 @@ module _ (n : ℕ) (positive : 0 < n) (cs : Columns) (ms : List ℕ) where
               (λ t below. level_at (i + t) (omega arith) ∙ alike.levels t below ∙ sym (level_at i inside));
           carries = alike.marks;
         })
-      where
-        above : {m : ℕ} → (m ≡ 0 → ⊥) → 0 < m
-        above {m} none = omega arith
 
     -- ---- the turn at leaf i, where it is neither refined nor merges
     pub turn_kept : (mark ms i ≡ 1 → ⊥) → merging n (leaves cs) ms i ≡ false → 0 ≡ turn n (leaves cs) ms i

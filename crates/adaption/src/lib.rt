@@ -1,5 +1,6 @@
 // Adaption: one mark a leaf, one pass, into a second set of lent columns. The contract is the call of `specs/Calls.antt` at eight children and
-// highest level 21; the engine behind it takes the bits of a child number and the highest level as ordinary numbers.
+// highest level 21; the engine behind it takes the bits of a child number as an ordinary number, and of the level knows nothing: `marks`
+// alone is told the highest.
 #![tactic(auto)]
 
 ghost use Rattle.columns.specs.Lent.{held, SameLoans};

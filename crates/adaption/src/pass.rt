@@ -1,4 +1,5 @@
-// The pass over the marks: once to count, once to write.
+// The pass over the marks: once to count, once to write. Two walks, for the room is judged between them by what the first has counted, and
+// nothing is written before. A `while` in each: a step takes as many leaves as its turn has, one or a family, which no iterator gives.
 ghost use Rattle.std.specs.Prelude.{◌≡◌, ◌^◌, ◌<◌, length};
 ghost use Rattle.leaves.specs.Leaves.{leaves, front};
 ghost use Rattle.columns.specs.Lent.{held, SameLoans};

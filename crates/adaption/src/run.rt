@@ -8,7 +8,8 @@ use crate::turn::Turn;
 use columns::LentColumns;
 use leaves::Leaf;
 
-// The leaves that a turn makes, the first of them as given, from entry `at` of each column on.
+// The leaves that a turn makes, the first of them as given, from entry `at` of each column on. One leaf is stored here: `columns::lay` asks
+// first whether it fits, and where all leaves are kept that took a tenth more time, or more.
 pub(crate) fn lay(bits: u8, turn: Turn, at: usize, first: Leaf, lent: &mut LentColumns)
     requires bits_bound { bits < 8 }
     requires turn_bound { first.position + gain (2 ^ bits) (turn_of turn) ≤ 18446744073709551615 }

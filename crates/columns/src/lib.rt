@@ -1,4 +1,5 @@
 // Leaves stored in lent columns: a uniform start, and a stretch of leaves of one root and level.
+// The bits of a child number and a level are ordinary numbers here, as in the laws.
 #![tactic(auto)]
 
 ghost use Rattle.leaves.specs.Calls.{Started};

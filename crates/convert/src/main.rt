@@ -1,5 +1,6 @@
 // The converter: reads one stored order line from standard input and prints it with the 2 that an empty field seven meant, or the old refusal.
 // The first bytes of the input decide, and no output is longer than the buffer (`converter`, `specs/Laws.antt`).
+// A main beside the order program's: a shared one would take the call and, as a const argument, the buffer's length, and be as long as both.
 #![tactic(auto)]
 
 use converter::LONGEST_LINE;

@@ -32,11 +32,10 @@ fn copied(line: &[u8], out: &mut [u8]) -> Result<u64, Refusal>
 fn kept(line: &[u8], out: &mut [u8]) -> Result<u64, Refusal>
     ensures { Prints (kept line.now) result out.old out.new }
 {
-    let asked = forms::read(line);
-    if asked.is_ok() {
-        return copied(line, out);
+    match forms::read(line) {
+        Ok(_) => copied(line, out),
+        Err(refusal) => text::answer(Err(refusal), out),
     }
-    text::answer(asked, out)
 }
 
 // What the converter prints on the input, at the front of the lent buffer, and how many bytes that is. Refused: 14, with the bytes needed.

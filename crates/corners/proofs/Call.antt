@@ -6,7 +6,12 @@ use Prim.Native.Nat.{ℕ, ◌^◌, ◌≤◌, ◌<◌}
 use borrow.Author.Tests.{lt-ltb, le-ltb, lt-leb, le-leb, ltb-false, leb-false, not-false}
 use lib.Dec.{leb, ltb}
 use Rattle.paper.specs.Outcome.{accepted, refused, passed, refuse_when, and_then}
-use Rattle.paper.proofs.Scan.{accepted_same, accepted_of, accepted_by}
+use Rattle.std.specs.declared.result.Result.{Result}
+use Rattle.std.specs.declared.result.Result.TheVariants.{Err}
+use Rattle.paper.specs.declared.Refusal.{Refusal}
+use Rattle.paper.specs.Refusals.{number_of, place_of, outcome_of}
+use Rattle.paper.proofs.Scan.{never, accepted_same, accepted_of, accepted_by}
+use Rattle.tree.proofs.Call.{at_accepted}
 use Rattle.tree.specs.Laws.{Sound}
 use Rattle.tree.specs.Words.{element_at}
 use Rattle.tree.specs.Calls
@@ -91,3 +96,9 @@ found_sound l p e h =
     let level = accepted_of (ltb 21 l) 1 0 _ e (sym h) in
     let position = accepted_of (leb (8 ^ l) p) 5 0 _ e level.1 in
     subst (Sound prism) (accepted_same _ _ position.1) (element_sound l p (ltb-false 21 l level.0) (leb-false (8 ^ l) p position.0))
+
+-- where the level has the position, the public call cannot refuse
+pub element_never : (l p : ℕ) → l ≤ 21 → p < 8 ^ l → {A : Type 0} (a : Result Prism Refusal) (r : Refusal) → a ≡ Err r → outcome_of a ≡ Calls.at prism l p → A
+unfolding prism_to
+element_never l p shallow below a r taken found =
+    never _ (number_of r) (place_of r) (sym (ap outcome_of taken) ∙ found ∙ at_accepted prism l p shallow below)

@@ -50,7 +50,7 @@ fn step(kind: u8, number: u8, corner: u8) -> u32
     let s = work::sides(row.kind, corner % Triangle::CORNERS);
     let x = row.x + s / 2;
     let y = row.y + s % 2;
-    (4 * x + y) as u32
+    u32::from(4 * x + y)
 }
 
 impl Section {
@@ -89,7 +89,7 @@ impl Section {
         let digit = (self.steps >> (16 * parent.kind + 4 * (number % 4))) % 16;
         let x = parent.x + digit / 4 * h;
         let y = parent.y + digit % 4 * h;
-        let z = parent.z + (number / 4 + self.corner / Triangle::CORNERS) as u32 * h;
+        let z = parent.z + u32::from(number / 4 + self.corner / Triangle::CORNERS) * h;
         Local { x, y, z }
     }
 }

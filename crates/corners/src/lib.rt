@@ -17,7 +17,7 @@ mod local;
 mod section;
 mod work;
 
-// One of a root's six corners.
+// One of a root's six corners. `Point` is alike but for the number; a struct for each, since a function over C takes no generic one.
 #[repr(C)]
 #[derive(Clone, Copy, Debug, PartialEq, Eq)]
 pub struct Corner {
@@ -27,7 +27,7 @@ pub struct Corner {
 }
 
 // A root: v0 to v2 belong to z = 0, v3 to v5 to z = EDGE, each over the one three before it. In space they may lie anywhere.
-// Six fields, and no array: the C interface has them so.
+// Six fields, and no array: the paper names them v0 to v5, and so do the definitions and laws; an index would have to be proved in range.
 #[repr(C)]
 #[derive(Clone, Copy, Debug, PartialEq, Eq)]
 pub struct Root {

@@ -2,6 +2,7 @@
 ghost use Rattle.std.specs.Prelude.{◌≤◌};
 ghost use Rattle.tree.specs.Anchors.{EDGE};
 
+// A struct of its own, beside `Corner` and `Point`: its facts bound it within the root.
 #[derive(Clone, Copy)]
 pub(crate) struct Local {
     pub x: u32,

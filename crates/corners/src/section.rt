@@ -18,13 +18,14 @@ struct Kept {
     parent: Prism,
 }
 
+// The test of the definition of this name.
 pub(crate) fn equal_lengths(positions: usize, xs: usize, ys: usize, zs: usize) -> bool
     ensures { result ≡ (eqb positions xs && (eqb positions ys && eqb positions zs)) }
 {
     positions == xs && positions == ys && positions == zs
 }
 
-// The points, in the order of their positions. One column for each coordinate: the C interface lends them so.
+// The points, in the order of their positions. Three columns, as the public call has them: the C interface lends each coordinate's by itself.
 pub(crate) fn fill(
     level: u8,
     positions: &[u64],

@@ -15,7 +15,7 @@ use prism::Prism;
 use tree::element::Element;
 use triangle::Triangle;
 
-// One coordinate of a root's six corners.
+// One coordinate of a root's six corners. Six fields, and no array, as in `Root`: the paper names them, and no index is to prove in range.
 #[derive(Clone, Copy)]
 pub(crate) struct Axis {
     pub v0: i64,
@@ -87,10 +87,10 @@ pub(crate) fn local_of(e: Prism, corner: u8) -> Local
     ensures { corner_of result ≡ prisms.corner HIGHEST e corner }
 {
     let h = tree::side(e.level);
-    let s = sides(e.kind, corner % Triangle::CORNERS) as u32;
+    let s = u32::from(sides(e.kind, corner % Triangle::CORNERS));
     let x = e.x + s / 2 * h;
     let y = e.y + s % 2 * h;
-    let z = e.z + (corner / Triangle::CORNERS) as u32 * h;
+    let z = e.z + u32::from(corner / Triangle::CORNERS) * h;
     Local { x, y, z }
 }
 
@@ -102,7 +102,7 @@ fn raised(low: i64, high: i64, z: u32) -> i64
     requires { (nat_abs low ≤ 512) × ((nat_abs high ≤ 512) × (z ≤ EDGE)) }
     ensures { result ≡ mix low high z }
 {
-    SCALE * low + (high - low) * z as i64
+    SCALE * low + (high - low) * i64::from(z)
 }
 
 // Q, from the three at the height.
@@ -110,7 +110,7 @@ fn blended(t0: i64, t1: i64, t2: i64, x: u32, y: u32) -> i64
     requires { Heights t0 t1 t2 × ((y ≤ x) × (x ≤ EDGE)) }
     ensures { result ≡ blend t0 t1 t2 x y }
 {
-    SCALE * t0 + (t1 - t0) * x as i64 + (t2 - t1) * y as i64
+    SCALE * t0 + (t1 - t0) * i64::from(x) + (t2 - t1) * i64::from(y)
 }
 
 impl Axis {

@@ -39,10 +39,6 @@ module _ (s : List ℕ) (at : ℕ) (past : length s < at) where
   pub from_past : from s at ≡ []
   from_past = simp (lt-leb at (length s) past)
 
-pub and_none : (t : Bool) → (t && false) ≡ false
-and_none true = refl
-and_none false = refl
-
 -- ---- what stands at the cursor
 module _ (s : List ℕ) (k at end : ℕ) (come : Come s k at end) where
   pub fields_here : at ≤ length s → drop k (fields s) ≡ piece (drop at s) ∷ later (rest (drop at s))

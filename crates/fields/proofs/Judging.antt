@@ -1,8 +1,10 @@
 -- Where a field ends after its first digits it is these digits, and how many they are and the first of them decide whether it is a number; where
 -- it goes on, it has another byte or too many digits. Assumes nothing.
+use Rattle.std.proofs.Math.Bool.{and-false}
+use Rattle.std.proofs.lemmas.List.{nil_from_length}
 use mathlib.Core.Path.{◌≡◌, refl, ap, ap₂, ◌∙◌, sym}
 use mathlib.Core.Bool.{Bool, true, false}
-use mathlib.Core.List.{List, [], ◌∷◌}
+use mathlib.Core.List.{List, []}
 use Prim.Native.Nat.{ℕ, ◌+◌, ◌≤◌, ◌<◌}
 use native.Mathlib.Omega.{arith}
 use lib.Dec.{eqb, ltb}
@@ -13,7 +15,6 @@ use Rattle.fields.specs.Fields.{all_digits, leading_zero, is_number, value_from,
 use Rattle.fields.specs.Inner.{piece, Ran, zero_first, number_at}
 use Rattle.fields.specs.declared.digits.Run.{Run}
 use Rattle.fields.proofs.Cursor.{end_none, piece_some}
-use Rattle.fields.proofs.Coming.{and_none}
 use Rattle.fields.proofs.Values.{parts_number}
 
 -- ---- what is no number
@@ -25,14 +26,10 @@ module _ (f : List ℕ) where
   not_long long = simp (le-leb 1 (length f) (omega arith), lt-leb (length f) 9 long)
 
   not_zero : leading_zero f ≡ true → is_number f ≡ false
-  not_zero zero = simp (zero, and_none)
+  not_zero zero = simp (zero, and-false)
 
   not_digits : all_digits f ≡ false → is_number f ≡ false
-  not_digits other = simp (other, and_none)
-
-no_bytes : (f : List ℕ) → length f ≡ 0 → f ≡ []
-no_bytes [] none = refl
-no_bytes (b ∷ f) none = absurd (omega (arith, none))
+  not_digits other = simp (other, and-false)
 
 refused_so : (s : List ℕ) (at : ℕ) → is_number (piece (drop at s)) ≡ false → refused 23 0 ≡ number_at s at
 refused_so s at none = simp none
@@ -74,7 +71,7 @@ module _ (s : List ℕ) (at : ℕ) (r : Run) (ran : Ran s at r) where
     long = omega (arith, ran.reached.long, eqb-true (length (piece (drop (at + r.count) s))) 0 closed)
 
     none_left : piece (drop (at + r.count) s) ≡ []
-    none_left = no_bytes _ (eqb-true _ 0 closed)
+    none_left = nil_from_length _ (eqb-true _ 0 closed)
 
     zero_same : leading_zero (piece (drop at s)) ≡ zero_first (get_or s at 0) r.count
     zero_same =

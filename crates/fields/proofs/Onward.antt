@@ -1,4 +1,5 @@
 -- One field more: the byte at its end says whether a field follows, the line closes or the input ends, and the cursor goes on. Assumes nothing.
+use Rattle.std.proofs.Math.Bool.{and-false}
 use mathlib.Core.Path.{◌≡◌, refl, ap, ◌∙◌, sym}
 use mathlib.Core.Bool.{Bool, true, false, ◌&&◌}
 use mathlib.Core.List.{List, [], ◌∷◌}
@@ -13,7 +14,7 @@ use Rattle.fields.specs.Fields.{lf, semicolon, fields, ended}
 use Rattle.fields.specs.Inner.{piece, next, closes}
 use Rattle.fields.proofs.Cursor.{drop_next, next_none, next_field, next_other, closes_not, closes_last}
 use Rattle.fields.proofs.Cutting.{rest, later, Stop, input_ends, line_ends, field_ends, cut, end_le, rest_drop}
-use Rattle.fields.proofs.Coming.{from, closed, Come, from_past, and_none, fields_here, field_many}
+use Rattle.fields.proofs.Coming.{from, closed, Come, from_past, fields_here, field_many}
 
 -- ---- one field more: r is what follows it
 module _ (s : List ℕ) (k e : ℕ) (r : List ℕ) (here : r ≡ drop e s) (within : e ≤ length s)
@@ -34,7 +35,7 @@ module _ (s : List ℕ) (k e : ℕ) (r : List ℕ) (here : r ≡ drop e s) (with
       let last : e ≡ length s = omega (arith, ap length (sym here ∙ none), length-drop e s) in
       let open_end : ended s ≡ false = whole ∙ ap ended none in
       come_last (next_none s e (omega arith)) (ap later none)
-      (ap (λ (t : Bool). eqb (length (fields s)) (suc k) && t) open_end ∙ and_none (eqb (length (fields s)) (suc k)) ∙ sym (closes_not s e (λ more. omega (arith, more))))
+      (ap (λ (t : Bool). eqb (length (fields s)) (suc k) && t) open_end ∙ and-false (eqb (length (fields s)) (suc k)) ∙ sym (closes_not s e (λ more. omega (arith, more))))
 
   module _ (b : ℕ) (t : List ℕ) (more : r ≡ b ∷ t) where
     byte_inside : e < length s
@@ -78,7 +79,7 @@ module _ (s : List ℕ) (k e : ℕ) (r : List ℕ) (here : r ≡ drop e s) (with
         record {
           stands = stands ∙ follows ∙ ap fields tail_here ∙ sym (ap (from s) onward ∙ simp (le-leb (e + 1) (length s) inner));
           same_end = λ inside. ends ∙ ap ended (tail_here ∙ ap (λ (j : ℕ). drop j s) (sym onward));
-          closing = λ some. simp (ne_eqb (length (fields s)) (suc k) (λ d. omega (arith, d, longer))) (sym (ap (λ (x : Bool). eqb (e + 1) (length s) && x) (ne_eqb (get_or s e 0) lf (λ d. omega (arith, d))) ∙ and_none (eqb (e + 1) (length s))));
+          closing = λ some. simp (ne_eqb (length (fields s)) (suc k) (λ d. omega (arith, d, longer))) (sym (ap (λ (x : Bool). eqb (e + 1) (length s) && x) (ne_eqb (get_or s e 0) lf (λ d. omega (arith, d))) ∙ and-false (eqb (e + 1) (length s))));
         }
 
   come_stop : Stop r → Come s (suc k) (next s e) e

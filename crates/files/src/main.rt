@@ -7,6 +7,7 @@ use paper::Refusal;
 use reader::Grid;
 use std::io;
 
+// The same in `lists`: two small programs share the library alone, which has no arrays of its own.
 // Three columns of so many entries.
 #[derive(Drop)]
 struct Entries<const N: usize> {

@@ -111,7 +111,7 @@ module _ (bs : List ℕ) where
   head_placed number at is = (of_fault number at front_placed is).place.near
 
 -- ---- the size of a file
-run_bytes_few : (rs : List Run) → length (run_bytes rs) ≤ 6 * length rs
+pub run_bytes_few : (rs : List Run) → length (run_bytes rs) ≤ 6 * length rs
 unfolding run_bytes
 run_bytes_few [] = omega arith
 run_bytes_few (r ∷ rs) =

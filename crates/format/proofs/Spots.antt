@@ -1,13 +1,15 @@
 -- Where a run ends, as the code's shifts find it: a spot that a leaf of level l may start at is so many leaves of the level into its root.
 -- Assumes nothing.
+use Rattle.std.proofs.Math.Bool.{and-false}
+use Rattle.tree.proofs.Digits.{shifted_power}
 use mathlib.Core.Path.{◌≡◌, refl, ap, ap₂, ◌∙◌, sym}
-use mathlib.Core.Bool.{Bool, true, false, true≢false, ◌&&◌}
+use mathlib.Core.Bool.{true, false, true≢false}
 use Prim.Native.Nat.{ℕ, zero, suc, ◌+◌, ◌-◌, ◌*◌, ◌/◌, ◌%◌, ◌^◌, ◌≤◌, ◌<◌}
 use native.Mathlib.Nat.{div-add-mod', div-lt_iff_lt-mul, div-eq_of_lt, mod-eq_of_lt, mod-lt, mul-le-mul_right, one-mul}
 use native.Mathlib.Decide.{ℕ_discrete}
 use native.Mathlib.Omega.{arith}
 use lib.Dec.{ltb}
-use lib.Pow.{pow_pos, pow-lt}
+use lib.Pow.{pow_pos}
 use borrow.Author.Tests.{ne_eqb}
 use Rattle.tree.proofs.Digits.{power_bits}
 use Rattle.paper.specs.Outcome.{rows}
@@ -22,11 +24,7 @@ module _ (n L l K : ℕ) (positive : 0 < n) (shallow : l ≤ L) (c : Spot) where
   pub fits_not : (k : ℕ) → (k ≡ 0 → ⊥) → (c.cell % span n L l ≡ 0 → ⊥) → fits n L K c l k ≡ false
   unfolding fits
   fits_not zero some within = absurd (some refl)
-  fits_not (suc k) some within = simp (ne_eqb (c.cell % span n L l) 0 within) (none (ltb c.root K))
-    where
-      none : (b : Bool) → (b && false) ≡ false
-      none true = refl
-      none false = refl
+  fits_not (suc k) some within = simp (ne_eqb (c.cell % span n L l) 0 within) (and-false (ltb c.root K))
 
   pub fits_whole : (k : ℕ) → (k ≡ 0 → ⊥) → fits n L K c l k ≡ true → c.cell % span n L l ≡ 0
   fits_whole k some fit = by (ℕ_discrete (c.cell % span n L l) 0)
@@ -63,9 +61,6 @@ module _ (n L l K : ℕ) (positive : 0 < n) (shallow : l ≤ L) (c : Spot) where
         ∙ ap (upto K) (sym (after_is (suc k)))
 
 -- ---- the code's shifts
-each_is : (m : ℕ) → m < 64 → 1 * 2 ^ m % 2 ^ 64 ≡ 2 ^ m
-each_is m small = ap (λ (k : ℕ). k % 2 ^ 64) (one-mul (2 ^ m)) ∙ mod-eq_of_lt (pow-lt small)
-
 pub few_levels : (b L : ℕ) → 0 < b → b * L ≤ 63 → L ≤ 63
 few_levels b L some narrow = omega (arith, mul-le-mul_right L some, one-mul L)
 
@@ -77,10 +72,10 @@ module _ (b L l : ℕ) (narrow : b * L ≤ 63) (shallow : l ≤ L) where
   level_bits = omega (arith, bits_le b L narrow l shallow)
 
   pub span_is : 1 * 2 ^ (b * (L - l)) % 2 ^ 64 ≡ span (2 ^ b) L l
-  span_is = each_is (b * (L - l)) left_bits ∙ sym (power_bits b (L - l))
+  span_is = shifted_power b (L - l) left_bits
 
   pub level_is : 1 * 2 ^ (b * l) % 2 ^ 64 ≡ (2 ^ b) ^ l
-  level_is = each_is (b * l) level_bits ∙ sym (power_bits b l)
+  level_is = shifted_power b l level_bits
 
   module _ (r q k : ℕ) (proper : q < (2 ^ b) ^ L) where
     pub after_spot : q % span (2 ^ b) L l ≡ 0

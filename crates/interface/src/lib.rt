@@ -1,4 +1,4 @@
-// The C interface: one flat function for each public call. What it returns is the result of the call's outcome (`results`), and the lent memory
+// The C interface: one flat function for each public call, since a function over C has no type parameters. What it returns is the result of the call's outcome (`results`), and the lent memory
 // is what that outcome leaves; `specs/Calls.antt` has a name for each contract of a call that is lent memory.
 #![tactic(auto)]
 

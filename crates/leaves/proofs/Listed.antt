@@ -6,6 +6,7 @@ use native.Mathlib.Omega.{arith}
 use lib.Dec.{ltb, eqb}
 use lib.ListN.{length}
 use borrow.Author.Tests.{ltb-false, eqb-true, eqb-false, not-false, le-ltb, eq-eqb, ne_eqb}
+use Rattle.std.proofs.Math.Nat.{pos_of_ne-zero}
 use Rattle.paper.specs.Outcome.{Outcome, accepted, refused, passed}
 use Rattle.paper.specs.Memory.{room_for}
 use Rattle.paper.proofs.Tests.{passed_by, or_none}
@@ -15,14 +16,11 @@ use Rattle.leaves.specs.Calls.{limit, most, out_of_range, walked, listed, check_
 use Rattle.leaves.specs.Laws.{ValidList}
 use Rattle.leaves.proofs.Check.{exactly, walked_passed, walked_accepted, walked_refused}
 
-above : {m : ℕ} → (m ≡ 0 → ⊥) → 0 < m
-above {m} none = omega arith
-
 -- "1 to 4,096"
 pub in_range_lem : (K : ℕ) → out_of_range K ≡ false → (0 < K) × (K ≤ most)
 in_range_lem K right =
     let range = or_none (eqb K 0) (ltb most K) right in
-    (above (eqb-false K 0 range.0), ltb-false most K range.1)
+    (pos_of_ne-zero (eqb-false K 0 range.0), ltb-false most K range.1)
 
 -- what has room is given
 pub room_gives : {A : Type 0} (needed there : ℕ) (a b : A) → room_for needed there a ≡ accepted b → a ≡ b
@@ -60,7 +58,7 @@ module _ (n L K : ℕ) (in_range fitting : Bool) (cs : Columns) where
         few_roots = range.1;
         levels_long = eqb-true (length cs.roots) (length cs.levels) equal.0;
         positions_long = eqb-true (length cs.roots) (length cs.positions) equal.1;
-        some = above none;
+        some = pos_of_ne-zero none;
         few = ltb-false limit (room cs) size.1;
         valid = (exactly n L K (leaves cs)).0 d.1;
       }

@@ -1,5 +1,6 @@
 // Leaf lists over lent columns: root, level, position. The contract of the list check is the call of `specs/Calls.antt` at eight children and
-// highest level 21; the engine behind it takes the bits of a child number and the highest level as ordinary numbers.
+// highest level 21; the engine behind it takes the bits of a child number and the highest level as ordinary numbers,
+// as its laws and edits do.
 #![tactic(auto)]
 
 ghost use Rattle.std.specs.Prelude.{◌≡◌, ◌&&◌, ◌^◌, ◌≤◌, ◌<◌, eqb, MatchResult};
@@ -35,7 +36,7 @@ pub fn out_of_range(k: u16) -> bool
     k == 0 || MOST < k
 }
 
-// Whether the three columns of a list are equally long, by their lengths.
+// Whether the three columns of a list are equally long, by their lengths: public, and so it stays beside `is_even`.
 pub fn equal_lengths(roots: usize, levels: usize, positions: usize) -> bool
     ensures { result ≡ (eqb roots levels && eqb roots positions) }
 {
@@ -49,10 +50,7 @@ pub fn check_list(k: u16, list: &LeafList) -> Result<(), Refusal>
     if out_of_range(k) {
         return Err(Refusal::OutOfRange(0));
     }
-    if !list.is_even() {
-        return Err(Refusal::UnfitColumns(0));
-    }
-    if list.len() == 0 || LIMIT < list.len() {
+    if !list.is_even() || list.len() == 0 || LIMIT < list.len() {
         return Err(Refusal::UnfitColumns(0));
     }
     walk(BITS, tree::HIGHEST, k, list)

@@ -10,7 +10,7 @@ ghost use Rattle.leaves.specs.Inner.{spot_of};
 use crate::{Leaf, power};
 use paper::Refusal;
 
-// Where a list has come to: a root, and a smallest cell of it.
+// Where a list has come to: a root, and a smallest cell of it. The one of `sounding` has a wider root, which may run past the last.
 #[derive(Clone, Copy)]
 pub(crate) struct Cursor {
     pub(crate) root: u16,

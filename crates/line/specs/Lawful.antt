@@ -11,8 +11,7 @@ use Rattle.tree.specs.Laws.{Lawful}
 use Rattle.tree.specs.Stated.{States, Same}
 use Rattle.tree.proofs.Anchor.{grid_zero, zero_grid, child_grid, child_rounded, child_bit, parent_grid, parent_split, bit_lt}
 use Rattle.line.specs.declared.Line.{Line}
-use Rattle.tree.specs.Stated.{States, Same}
-use Rattle.line.specs.Elements.{line, line, line_to, fault}
+use Rattle.line.specs.Elements.{line, line_to, fault}
 
 pub line_path : (e f : Line) → e.x ≡ f.x → e.level ≡ f.level → e ≡ f
 line_path e f p q = λ i. record { x = p i; level = q i }

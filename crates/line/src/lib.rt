@@ -1,4 +1,4 @@
-// Lines: the upright part of a prism. The ten calls are those of `tree::element`, at this shape; `specs/Elements.antt` says what a
+// Lines: the upright part of a prism. The ten calls are those of `tree::element` and `tree::columns`, at this shape; `specs/Elements.antt` says what a
 // line is.
 #![tactic(auto, unfolding(crate::specs::Elements::line_to))]
 
@@ -86,6 +86,7 @@ impl Element for Line {
         }
     }
 
+    // Its fields by their names: for all shapes at once it would be no plainer.
     fn top(self, level: u8) -> Line {
         Line { x: self.x, level }
     }
@@ -106,7 +107,7 @@ impl Element for Line {
     }
 }
 
-// Several lines in lent columns.
+// Several lines in lent columns, a field each, as the C interface lends them.
 #[derive(Clone, Copy)]
 pub struct Lines<'a> {
     pub xs: &'a [u32],

@@ -6,6 +6,41 @@ use leaves::LeafList;
 use paper::Refusal;
 use std::io;
 
+// The same in `files`: two small programs share the library alone, which has no arrays of its own.
+// Three columns of so many entries.
+#[derive(Drop)]
+struct Entries<const N: usize> {
+    roots: [u16; N],
+    levels: [u8; N],
+    positions: [u64; N],
+}
+
+impl<const N: usize> Entries<N> {
+    fn new() -> Self {
+        Entries {
+            roots: [0; N],
+            levels: [0; N],
+            positions: [0; N],
+        }
+    }
+
+    fn list(&self) -> LeafList<'_> {
+        LeafList {
+            roots: &self.roots,
+            levels: &self.levels,
+            positions: &self.positions,
+        }
+    }
+
+    fn lent(&mut self) -> LentColumns<'_> {
+        LentColumns {
+            roots: &mut self.roots,
+            levels: &mut self.levels,
+            positions: &mut self.positions,
+        }
+    }
+}
+
 fn say(rt: &impl Print, a: Result<u64, Refusal>) -> io::Result<()> {
     match a {
         Ok(n) => println!(rt; "{n} leaves"),
@@ -15,44 +50,29 @@ fn say(rt: &impl Print, a: Result<u64, Refusal>) -> io::Result<()> {
 
 // How many leaves the roots have at a level: without room the refusal 14 names the count.
 fn needed(rt: &impl Print, k: u16, level: u8) -> io::Result<()> {
-    let mut roots: [u16; 1] = [0; 1];
-    let mut levels: [u8; 1] = [0; 1];
-    let mut positions: [u64; 1] = [0; 1];
-    let mut lent = LentColumns {
-        roots: &mut roots,
-        levels: &mut levels,
-        positions: &mut positions,
-    };
+    let mut entries = Entries::<1>::new();
     print!(rt; "roots {k} level {level}: ")?;
-    say(rt, columns::uniform(k, level, &mut lent))
+    say(rt, columns::uniform(k, level, &mut entries.lent()))
 }
 
 // One root at level 1, leaf 2 refined, and all leaves marked 2 next.
 fn refined_and_merged(rt: &impl Print) -> io::Result<()> {
-    let mut roots: [u16; 8] = [0; 8];
-    let mut levels: [u8; 8] = [0; 8];
-    let mut positions: [u64; 8] = [0; 8];
-    let mut lent = LentColumns {
-        roots: &mut roots,
-        levels: &mut levels,
-        positions: &mut positions,
-    };
+    let mut entries = Entries::<8>::new();
+    let mut finer = Entries::<15>::new();
     print!(rt; "uniform at level 1: ")?;
-    say(rt, columns::uniform(1, 1, &mut lent))?;
+    say(rt, columns::uniform(1, 1, &mut entries.lent()))?;
     let marks: [u8; 8] = [0, 0, 1, 0, 0, 0, 0, 0];
-    let mut roots2: [u16; 15] = [0; 15];
-    let mut levels2: [u8; 15] = [0; 15];
-    let mut positions2: [u64; 15] = [0; 15];
-    let mut lent2 = LentColumns {
-        roots: &mut roots2,
-        levels: &mut levels2,
-        positions: &mut positions2,
-    };
     print!(rt; "leaf 2 refined: ")?;
-    say(rt, adaption::adapt(1, &lent.list(), &marks, &mut lent2))?;
+    say(
+        rt,
+        adaption::adapt(1, &entries.list(), &marks, &mut finer.lent()),
+    )?;
     let twos: [u8; 15] = [2; 15];
     print!(rt; "all marked 2: ")?;
-    say(rt, adaption::adapt(1, &lent2.list(), &twos, &mut lent))
+    say(
+        rt,
+        adaption::adapt(1, &finer.list(), &twos, &mut entries.lent()),
+    )
 }
 
 // The numbers of a column on the rest of the line.

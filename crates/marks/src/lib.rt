@@ -1,4 +1,5 @@
-// The marks of a list, one a leaf: 0 keep, 1 refine, 2 merge.
+// The marks of a list, one a leaf: 0 keep, 1 refine, 2 merge. A mark is a `u8`, since C hands in any number; 3 and more are refused. The highest
+// level is an ordinary number, as in the laws. The searches are as `first_zero` of `shares`.
 #![tactic(auto)]
 
 ghost use Rattle.std.specs.Prelude.{◌≡◌, ◌&&◌, true, leb, eqb, length};
@@ -23,7 +24,8 @@ pub fn check(highest: u8, levels: &[u8], marks: &[u8]) -> Result<(), Refusal>
     none_too_deep(highest, levels, marks)
 }
 
-// Whether no mark has a fault: all of them without a way out in between, so that the machine takes many at a time.
+// Whether no mark has a fault: all of them without a way out in between, so that the machine takes many at a time. A level by its index:
+// of a `zip` the invariant would speak of what two iterators have left, and here it speaks of one number.
 fn all_sound(highest: u8, levels: &[u8], marks: &[u8]) -> bool
     requires { length levels.now ≡ length marks.now }
     ensures { result ≡ true → Faultless highest levels.now marks.now (length marks.now) }
@@ -47,7 +49,7 @@ fn none_above_two(marks: &[u8]) -> Result<(), Refusal>
     Ok(())
 }
 
-// The first mark 1 on a leaf of the highest level, refused.
+// The first mark 1 on a leaf of the highest level, refused. A level by its index, as in `all_sound`.
 fn none_too_deep(highest: u8, levels: &[u8], marks: &[u8]) -> Result<(), Refusal>
     requires { length levels.now ≡ length marks.now }
     ensures { outcome_of result ≡ checks (depth_fault highest levels.now marks.now) (numbers (length marks.now)) }

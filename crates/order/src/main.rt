@@ -1,5 +1,6 @@
 // The order program: reads one line from standard input and prints what it asks for, or one line of refusal. The first bytes of the input
 // decide, and no output is longer than the buffer (`orders`, `specs/Laws.antt`).
+// `convert` has a main of its own: a shared one would take the call and, as a const argument, the buffer's length, and be as long as both.
 #![tactic(auto)]
 
 use orders::input::read_full;

@@ -42,6 +42,9 @@ pub written_length : {A : Type 0} (xs l : List A) → length xs ≤ length l →
 written_length xs l room = length-append xs (drop (length xs) l) ∙ omega (arith, length-drop (length xs) l)
 
 module _ {A : Type 0} (f : ℕ → A) (l : List A) where
+  pub front_length : (k : ℕ) → k ≤ length l → length (written (rows f 0 k) l) ≡ length l
+  front_length k room = written_length (rows f 0 k) l (omega (arith, rows_length f 0 k))
+
   pub front_more : (i : ℕ) → i < length l → set (written (rows f 0 i) l) i (f i) ≡ written (rows f 0 (i + 1)) l
   front_more i inside =
       let long = rows_length f 0 i in

@@ -1,8 +1,10 @@
--- Document 01, "Refusal numbers": "A refusal returns its number and a place." Which number and place each refusal of the code has. Definitions only.
+-- Document 01, "Refusal numbers": "A refusal returns its number and a place." "The right form for each place": "For each answer that is an enum,
+-- a definition gives this paper's number and values for each of the enum's cases, and the promises use that definition." Definitions only.
 --
 --   number_of r, place_of r   the paper's number, and the place
 --   outcome_of r              the outcome that a call's result stands for
---   ordering_of r             the same for an order of two, whose equal is the paper's same
+--   order_of c                the paper's word for how two compare: equal is same
+--   ordering_of r             the outcome that an order of two stands for
 --
 -- Assumes nothing.
 use Rattle.std.specs.Prelude.{ℕ}

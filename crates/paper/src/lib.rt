@@ -1,4 +1,4 @@
-// What a refused call answers: the error of every `Result`. `specs/Refusals.antt` says which number and place each has.
+// What a refused call answers: the error of every call's `Result`. `specs/Refusals.antt` says which number and place each has.
 #![tactic(auto)]
 
 ghost use Rattle.std.specs.Prelude.{◌≡◌};
@@ -97,30 +97,30 @@ impl Refusal {
         ensures { result ≡ place_of self }
     {
         match self {
-            Refusal::LevelTooHigh(place) => place,
-            Refusal::OffGrid(place) => place,
-            Refusal::NoType(place) => place,
-            Refusal::OutsideRoot(place) => place,
-            Refusal::NoPosition(place) => place,
-            Refusal::LevelTooLow(place) => place,
-            Refusal::TooSmall(place) => place,
-            Refusal::NumberTooLarge(place) => place,
-            Refusal::LastOne(place) => place,
-            Refusal::NoNeighbour(place) => place,
-            Refusal::UnfitColumns(place) => place,
-            Refusal::NotCovered(place) => place,
-            Refusal::NoMark(place) => place,
-            Refusal::NoRoom(place) => place,
-            Refusal::TooManyLeaves(place) => place,
-            Refusal::NoWeight(place) => place,
-            Refusal::OutOfRange(place) => place,
-            Refusal::NoTag(place) => place,
-            Refusal::EndsEarly(place) => place,
-            Refusal::NotShortest(place) => place,
-            Refusal::UnfitRuns(place) => place,
-            Refusal::BytesLeft(place) => place,
-            Refusal::UnfitField(place) => place,
-            Refusal::FarCorner(place) => place,
+            Refusal::LevelTooHigh(place)
+            | Refusal::OffGrid(place)
+            | Refusal::NoType(place)
+            | Refusal::OutsideRoot(place)
+            | Refusal::NoPosition(place)
+            | Refusal::LevelTooLow(place)
+            | Refusal::TooSmall(place)
+            | Refusal::NumberTooLarge(place)
+            | Refusal::LastOne(place)
+            | Refusal::NoNeighbour(place)
+            | Refusal::UnfitColumns(place)
+            | Refusal::NotCovered(place)
+            | Refusal::NoMark(place)
+            | Refusal::NoRoom(place)
+            | Refusal::TooManyLeaves(place)
+            | Refusal::NoWeight(place)
+            | Refusal::OutOfRange(place)
+            | Refusal::NoTag(place)
+            | Refusal::EndsEarly(place)
+            | Refusal::NotShortest(place)
+            | Refusal::UnfitRuns(place)
+            | Refusal::BytesLeft(place)
+            | Refusal::UnfitField(place)
+            | Refusal::FarCorner(place) => place,
         }
     }
 }

@@ -8,7 +8,9 @@ ghost use Rattle.tree.specs.Anchors.{HIGHEST};
 ghost use Rattle.positions.specs.Positions.{position_fault, check_positions};
 
 use paper::Refusal;
+use prism::Prism;
 use tree::HIGHEST;
+use tree::element::Element;
 
 // The first fault: 1 for the level, or 5 at the first position that the level has not. It is looked for only where there may be one.
 pub fn check(level: u8, positions: &[u64]) -> Result<(), Refusal>
@@ -17,7 +19,7 @@ pub fn check(level: u8, positions: &[u64]) -> Result<(), Refusal>
     if HIGHEST < level {
         return Err(Refusal::LevelTooHigh(0));
     }
-    if merged(positions) < 1u64 << (3 * level) {
+    if merged(positions) < 1u64 << (Prism::BITS * level) {
         return Ok(());
     }
     first_beyond(level, positions)
@@ -34,14 +36,14 @@ fn merged(positions: &[u64]) -> u64
     bits
 }
 
-// The first position that the level has not, one position at a time.
+// The first position that the level has not, one position at a time. By `position` the two ways out found no proof.
 #[tactic(auto, using(crate::proofs::Checking::position_found, crate::proofs::Checking::position_next))]
 fn first_beyond(level: u8, positions: &[u64]) -> Result<(), Refusal>
     requires { level ≤ HIGHEST }
     ensures { outcome_of result ≡ checks (position_fault level) positions.now }
 {
     for (i, position) in positions.iter().enumerate() {
-        if 1u64 << (3 * level) <= *position {
+        if 1u64 << (Prism::BITS * level) <= *position {
             return Err(Refusal::NoPosition(i as u64));
         }
     }

@@ -1,5 +1,5 @@
-// Prisms: a triangle times a line. The ten calls are those of `tree::element`, at this shape, and what they do has the triangle's part and
-// the line's, which is z, in one; `specs/Elements.antt` says what a prism is.
+// Prisms: a triangle times a line. The ten calls are those of `tree::element` and `tree::columns`, at this shape, and what they do has the triangle's part and
+// the line's, which is z, in one, for speed (docs/DECISIONS.md, "A prism's steps are in one piece in the code"); `specs/Elements.antt` says what a prism is.
 #![tactic(auto, unfolding(crate::specs::Elements::prism_to))]
 
 ghost use Rattle.std.specs.Prelude.{length};
@@ -19,7 +19,7 @@ pub struct Prism {
     pub y: u32,
     pub z: u32,
     pub level: u8,
-    // The type: `type` is a word of the language.
+    // The type: `type` is a word of the language. A `u8`, since C hands in any number; 2 and more are refused.
     pub kind: u8,
 }
 
@@ -149,6 +149,7 @@ impl Element for Prism {
         }
     }
 
+    // Its fields by their names: for all shapes at once it would be no plainer.
     fn top(self, level: u8) -> Prism {
         Prism { level, ..self }
     }
@@ -190,7 +191,7 @@ impl Element for Prism {
     }
 }
 
-// Several prisms in lent columns.
+// Several prisms in lent columns, a field each, as the C interface lends them.
 #[derive(Clone, Copy)]
 pub struct Prisms<'a> {
     pub xs: &'a [u32],

@@ -1,9 +1,11 @@
 -- The order's first demand: "Every element, list, file or order handed in gets either its one result or one numbered refusal. A refused call
 -- writes nothing into the columns or buffers we lent, and it never depends on our having checked first." Definitions only.
 --
--- That it never depends on a check before is that no public function has a `requires`; `.ci/run` looks for one. The rest is said here of every call
--- that answers a refusal or is lent memory to write into, by its contract. Every other public function has a contract `result ≡ ..`, with
--- nothing of the result on the right, so that two of its results are equal, but `promised`, which answers nothing. The same over C is `OverC.antt`.
+-- That it never depends on a check before is that no public function has a `requires`, but for the work that a shape owes the traits of `tree`, which
+-- no caller of a call meets; `.ci/run` looks for one. The rest is said here of every call that answers a refusal or is lent memory to write into, by its
+-- contract. Every other public function has a contract `result ≡ ..`, with nothing of the result on the right, so that two of its results are equal, but
+-- `promised`, which answers nothing, and `read_full` of `orders`, which fills a line from what a reader gives, whatever that is. The same over C is
+-- `OverC.antt`.
 --
 --   Call f ns most m C     a call with the contract C that finds the memory m: two runs have the same answer and leave the same memory; where the
 --                          answer's reading f is a refusal, the memory is what it was, its number is one of ns, and its place at most `most`

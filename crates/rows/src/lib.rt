@@ -2,7 +2,7 @@
 // table are taken modulo their count, so that each function answers for every input.
 #![tactic(auto)]
 
-ghost use Rattle.std.specs.Prelude.{◌≡◌, ◌%◌};
+ghost use Rattle.std.specs.Prelude.{◌≡◌, ◌%◌, ◌<◌, [], slice_index_or};
 ghost use Rattle.rows.specs.Rows.{step, child_row, slot_of, face_row, prism_face_row};
 
 // An entry of a triangle's table.
@@ -30,19 +30,19 @@ pub struct PrismStep {
 }
 
 // Children by curve number, a row for each type of the parent. An entry's digits: x step, y step, type.
-const CHILD: [[u8; 4]; 2] = [
+static CHILD: [[u8; 4]; 2] = [
     [0b0_0_0, 0b1_0_0, 0b1_0_1, 0b1_1_0],
     [0b0_0_1, 0b0_1_0, 0b0_1_1, 0b1_1_1],
 ];
 
 // Face neighbours, a row for each type. An entry's digits: x step, y step, type; of a step 00 is -h, 01 is 0, 10 is +h.
-const FACE: [[u8; 3]; 2] = [
+static FACE: [[u8; 3]; 2] = [
     [0b10_01_1, 0b01_01_1, 0b01_00_1],
     [0b01_10_0, 0b01_01_0, 0b00_01_0],
 ];
 
 // A prism's: faces 0 to 2 are the triangle's, 3 is z-h and 4 is z+h. An entry's digits: x step, y step, z step, type.
-const PRISM_FACE: [[u8; 5]; 2] = [
+static PRISM_FACE: [[u8; 5]; 2] = [
     [
         0b10_01_01_1,
         0b01_01_01_1,
@@ -59,12 +59,18 @@ const PRISM_FACE: [[u8; 5]; 2] = [
     ],
 ];
 
+// An entry: the row of a type, and there a number's, each modulo its count.
+fn entry<const N: usize>(table: &[[u8; N]; 2], kind: u8, number: u8) -> u8
+    requires { 0 < N }
+    ensures { result ≡ slice_index_or (slice_index_or table.now (kind % 2) []) (number % N) 0 }
+{
+    table[usize::from(kind) % 2][usize::from(number) % N]
+}
+
 pub fn child_row(kind: u8, number: u8) -> Step
     ensures { result ≡ child_row (kind % 2) (number % 4) }
 {
-    let t = kind as usize % 2;
-    let i = number as usize % 4;
-    let v = CHILD[t][i];
+    let v = entry(&CHILD, kind, number);
     Step {
         x: v / 4,
         y: v / 2 % 2,
@@ -95,9 +101,7 @@ pub fn slot_of(x: u32, y: u32, kind: u8) -> Slot
 pub fn face_row(kind: u8, face: u8) -> Step
     ensures { result ≡ face_row (kind % 2) (face % 3) }
 {
-    let t = kind as usize % 2;
-    let i = face as usize % 3;
-    let v = FACE[t][i];
+    let v = entry(&FACE, kind, face);
     Step {
         x: v / 8,
         y: v / 2 % 4,
@@ -108,9 +112,7 @@ pub fn face_row(kind: u8, face: u8) -> Step
 pub fn prism_face_row(kind: u8, face: u8) -> PrismStep
     ensures { result ≡ prism_face_row (kind % 2) (face % 5) }
 {
-    let t = kind as usize % 2;
-    let i = face as usize % 5;
-    let v = PRISM_FACE[t][i];
+    let v = entry(&PRISM_FACE, kind, face);
     PrismStep {
         x: v / 32,
         y: v / 8 % 4,

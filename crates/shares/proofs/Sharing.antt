@@ -3,7 +3,6 @@ use mathlib.Core.Path.{◌≡◌, refl, ap, ap₂, ◌∙◌, sym}
 use mathlib.Core.Bool.{Bool, true, false, not}
 use mathlib.Core.List.{List}
 use Prim.Native.Nat.{ℕ, ◌+◌, ◌≤◌, ◌<◌}
-use native.Mathlib.Omega.{arith}
 use lib.Dec.{ltb, eqb}
 use lib.ListN.{length}
 use borrow.Author.Tests.{lt-ltb, le-ltb, eq-eqb}
@@ -18,7 +17,7 @@ use Rattle.paper.proofs.Tests.{refused_by, passed_by}
 use Rattle.paper.proofs.Scan.{scan_passed, scan_refused}
 use Rattle.leaves.specs.Leaves.{Columns, room}
 use Rattle.leaves.specs.Calls.{out_of_range, listed, check_list}
-use Rattle.leaves.proofs.Listed.{columns_sound, listed_passed, listed_refused}
+use Rattle.leaves.proofs.Listed.{listed_passed, listed_refused}
 use Rattle.shares.specs.Shares.{boundaries}
 use Rattle.shares.specs.Calls.{weight_fault, shares, Shared}
 
@@ -56,9 +55,6 @@ module _ (k p : ℕ) (cs : Columns) (ws column : List ℕ) where
         not_shared r (call_listed ∙ listed_refused 8 21 k true true cs weighed (number_of r) (place_of r) (sym faulty))
 
     module _ (valid : passed ≡ check_list 8 21 k cs) where
-      pub few_weights : length ws ≤ 1048576
-      few_weights = omega (arith, (columns_sound 8 21 k true true cs (sym valid)).few)
-
       call_weighed : call ≡ weighed
       call_weighed = call_listed ∙ listed_passed 8 21 k true true cs weighed (sym valid)
 

@@ -7,6 +7,7 @@ use native.Mathlib.Omega.{arith}
 use lib.Dec.{eqb}
 use lib.ListN.{get_or}
 use borrow.Author.Tests.{eqb-false, ne_eqb}
+use Rattle.std.proofs.Math.Nat.{pos_of_ne-zero}
 use Rattle.paper.specs.Outcome.{passed, scan, checks}
 use Rattle.paper.proofs.Tests.{no_fault}
 use Rattle.paper.proofs.Scan.{scan_each, fault_none}
@@ -14,10 +15,7 @@ use Rattle.shares.specs.Calls.{weight_fault}
 use Rattle.shares.specs.Laws.{Weighty}
 
 some_weight : (w : ℕ) → weight_fault w ≡ 0 → 0 < w
-some_weight w right = above (eqb-false w 0 (no_fault (eqb w 0) 15 0 right).0)
-  where
-    above : {m : ℕ} → (m ≡ 0 → ⊥) → 0 < m
-    above {m} none = omega arith
+some_weight w right = pos_of_ne-zero (eqb-false w 0 (no_fault (eqb w 0) 15 0 right).0)
 
 all_pass : (i : ℕ) (ws : List ℕ) → Weighty ws → scan weight_fault i ws passed ≡ passed
 all_pass i [] weighty = refl

@@ -27,7 +27,7 @@ pub(crate) fn check_weights(weights: &[u16]) -> Result<(), Refusal>
     Ok(())
 }
 
-// Whether any weight is 0. It reads all of them: without a way out in between they go many at a time.
+// Whether any weight is 0. It reads all of them, in a loop and not by `any`: without a way out in between they go many at a time.
 fn any_zero(weights: &[u16]) -> bool
     ensures { result ≡ false → checks weight_fault weights.now ≡ passed }
 {
@@ -38,7 +38,7 @@ fn any_zero(weights: &[u16]) -> bool
     any
 }
 
-// The first weight 0, one weight at a time, refused.
+// The first weight 0, one weight at a time, refused. By `position` the two ways out found no proof.
 fn first_zero(weights: &[u16]) -> Result<(), Refusal>
     ensures { outcome_of result ≡ checks weight_fault weights.now }
 {
@@ -57,19 +57,19 @@ fn whole_weight(weights: &[u16]) -> u64
 {
     let mut sum = 0;
     for part in weights.chunks(65536) {
-        sum += part_weight(part) as u64;
+        sum += u64::from(part_weight(part));
     }
     sum
 }
 
-// The weight of a part, in half a word so that more weights are added at a time.
+// The weight of a part, in half a word so that more weights are added at a time; `sum` would add in the type of a weight.
 fn part_weight(weights: &[u16]) -> u32
     requires { length weights.now ≤ 65536 }
     ensures { (result ≡ shares.total weights.now) × (result ≤ 65535 * length weights.now) }
 {
     let mut sum = 0;
     for weight in weights {
-        sum += *weight as u32;
+        sum += u32::from(*weight);
     }
     sum
 }

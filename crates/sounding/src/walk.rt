@@ -20,7 +20,7 @@ pub(crate) struct Run {
 }
 
 // How far the runs of a file were read: how many leaves they have, the level of the last, where it ends, and the offset of what follows. Before
-// the first run the level is above every level.
+// the first run the level is above every level: a number and no Option, since the definition's walk has it so, and one test serves every run.
 #[derive(Clone, Copy)]
 pub(crate) struct Walk {
     pub(crate) leaves: u64,

@@ -1,5 +1,6 @@
 -- A field's number, printed, is the field: each digit read makes the number ten times as large, and each digit printed divides it by ten.
 -- Assumes nothing.
+use Rattle.std.proofs.lemmas.List.{nil_from_length}
 use mathlib.Core.Path.{◌≡◌, refl, ap, ap₂, ◌∙◌, sym}
 use mathlib.Core.Bool.{Bool, true, false, not, false≢true}
 use mathlib.Core.List.{List, [], ◌∷◌, ◌++◌, append_assoc, append-nil}
@@ -54,16 +55,12 @@ first_digit b f low high all short lone = by_digit (eqb b 48) refl
         ∙ ap (λ (ds : List ℕ). ds ++ f) (decimal_small (0 * 10 + (b - 48)) (omega arith))
         ∙ ap (λ (d : ℕ). d ∷ f) digit
 
-empty_of : (f : List ℕ) → length f ≡ 0 → f ≡ []
-empty_of [] none = refl
-empty_of (b ∷ f) none = absurd (omega arith)
-
 -- no zero in front of other digits
 lone_zero : (b : ℕ) (f : List ℕ) → leading_zero (b ∷ f) ≡ false → b ≡ 48 → f ≡ []
 lone_zero b f plain is =
     let only : not (eqb (suc (length f)) 1) ≡ false = sym (simp (eq-eqb b 48 is)) ∙ plain in
     let one = eqb-true (suc (length f)) 1 (not-false (eqb (suc (length f)) 1) only) in
-    empty_of f (omega (arith, one))
+    nil_from_length f (omega (arith, one))
 
 pub decimal_value : (f : List ℕ) → is_number f ≡ true → decimal (value f) ≡ f
 decimal_value [] is = absurd (false≢true is)

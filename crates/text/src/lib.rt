@@ -15,7 +15,7 @@ use writer::Writer;
 mod line;
 mod writer;
 
-// How many of n bytes there is room for.
+// How many of n bytes there is room for: public, and so it stays beside `min`.
 pub fn fitting(n: usize, room: usize) -> usize
     ensures { result ≡ min n room }
 {

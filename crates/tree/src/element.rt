@@ -1,5 +1,5 @@
-// The ten calls, once for every shape: each runs its tests in the order of the paper, then the shape's own work, which asks for just what
-// those tests have shown.
+// The calls on elements, once for every shape: each runs its tests in the order of the paper, then the shape's own work, which asks for just
+// what those tests have shown. The tenth, `family`, is in `columns.rt`.
 ghost use Rattle.std.specs.Prelude.{◌≡◌, ◌^◌, ◌<◌, ◌≤◌, ℕ};
 ghost use Rattle.paper.specs.Outcome.{fault_at};
 ghost use Rattle.paper.specs.Refusals.{outcome_of, ordering_of};
@@ -186,14 +186,14 @@ pub trait Element: Copy + PartialEq {
     {
         self.check(0)?;
         other.check(1)?;
-        Ok(order(self.start(), self.level(), other.start(), other.level()))
+        Ok(order(start(self), self.level(), start(other), other.level()))
     }
+}
 
-    // The position of the first descendant of the highest level.
-    final fn start(self) -> u64
-        requires { Sound shape self }
-        ensures { result ≡ Words.position shape (Words.first shape self HIGHEST) }
-    {
-        self.rank() << (Self::BITS * (HIGHEST - self.level()))
-    }
+// The position of a sound element's first descendant of the highest level.
+fn start<E: Element>(e: E) -> u64
+    requires { Sound E.shape e }
+    ensures { result ≡ Words.position E.shape (Words.first E.shape e HIGHEST) }
+{
+    e.rank() << (E::BITS * (HIGHEST - e.level()))
 }

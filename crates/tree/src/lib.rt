@@ -16,7 +16,7 @@ pub mod element;
 // The highest level of every shape, and the edge of the root: 2^HIGHEST.
 pub const HIGHEST: u8 = 21;
 
-pub const EDGE: u32 = 2097152;
+pub const EDGE: u32 = 1 << HIGHEST;
 
 // The side of a level.
 pub fn side(level: u8) -> u32
@@ -64,10 +64,10 @@ pub fn off_grid(level: u8, x: u32) -> bool
 pub fn moved(x: u32, step: u8, h: u32) -> Option<u32>
     ensures { result ≡ (if off_edge HIGHEST h step x then None else Some (anchors.moved h step x)) }
 {
-    let far = x as u64 + step as u64 * h as u64;
-    // Below 0 it wraps, past every edge.
-    let to = std::num::wrapping_sub_u64(far, h as u64);
-    if (EDGE as u64) <= to {
+    let far = u64::from(x) + u64::from(step) * u64::from(h);
+    // Below 0 it wraps, past every edge: `checked_sub` was a third slower over a line's face.
+    let to = far.wrapping_sub(u64::from(h));
+    if u64::from(EDGE) <= to {
         return None;
     }
     Some(to as u32)

@@ -1,4 +1,4 @@
-// Triangles: the ground plan of a prism. The ten calls are those of `tree::element`, at this shape; `specs/Elements.antt` says what a
+// Triangles: the ground plan of a prism. The ten calls are those of `tree::element` and `tree::columns`, at this shape; `specs/Elements.antt` says what a
 // triangle is.
 #![tactic(auto, unfolding(crate::specs::Elements::triangle_to))]
 
@@ -18,7 +18,7 @@ pub struct Triangle {
     pub x: u32,
     pub y: u32,
     pub level: u8,
-    // The type: `type` is a word of the language.
+    // The type: `type` is a word of the language. A `u8`, since C hands in any number; 2 and more are refused.
     pub kind: u8,
 }
 
@@ -143,6 +143,7 @@ impl Element for Triangle {
         }
     }
 
+    // Its fields by their names: for all shapes at once it would be no plainer.
     fn top(self, level: u8) -> Triangle {
         Triangle { level, ..self }
     }
@@ -179,7 +180,7 @@ impl Element for Triangle {
     }
 }
 
-// Several triangles in lent columns.
+// Several triangles in lent columns, a field each, as the C interface lends them.
 #[derive(Clone, Copy)]
 pub struct Triangles<'a> {
     pub xs: &'a [u32],

@@ -24,7 +24,8 @@ use Rattle.format.specs.File.{run_bytes, tag, file_of, runs_in}
 use Rattle.paper.proofs.Tests.{refused_by}
 use Rattle.writer.specs.Calls.{write, FileWritten}
 use Rattle.writer.specs.Inner.{level_file, Counted}
-use Rattle.writer.proofs.Writing.{level_runs_few, run_bytes_few, file_levels}
+use Rattle.format.proofs.Placed.{run_bytes_few}
+use Rattle.writer.proofs.Writing.{level_runs_few, file_levels}
 use Rattle.numbers.proofs.Cases.{few_bytes}
 
 module _ (k : ℕ) (cs : Columns) (bs : List ℕ) where

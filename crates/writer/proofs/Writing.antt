@@ -1,4 +1,5 @@
 -- The runs of a list follow from its levels: leaves of one level, before a leaf of another, are the first run. Assumes nothing.
+use Rattle.format.proofs.Placed.{run_bytes_few}
 use mathlib.Core.Path.{◌≡◌, refl, ap, ◌∙◌, sym}
 use mathlib.Core.Bool.{Bool, true, false, cond}
 use mathlib.Core.List.{List, [], ◌∷◌, ◌++◌}
@@ -16,7 +17,6 @@ use Rattle.leaves.specs.Calls.{limit}
 use Rattle.numbers.specs.Numbers.{bytes_of}
 use Rattle.format.specs.File.{same_key, Run, run, join_run, runs_in, runs_of, run_bytes, runs_file, file_of, keys_in, Differs}
 use Rattle.writer.specs.Inner.{level_file, other, Counted}
-use Rattle.numbers.proofs.Cases.{few_bytes}
 use Rattle.format.proofs.Keys.{same_key_lem}
 use Rattle.format.proofs.Runs.{join_few}
 use Rattle.format.proofs.Fitting.{first_run}
@@ -59,19 +59,6 @@ pub level_runs_few : (ls : List ℕ) → length (runs_in ls) ≤ length ls
 unfolding runs_in
 level_runs_few [] = omega arith
 level_runs_few (l ∷ ls) = let fewer = level_runs_few ls in omega (arith, join_few l (runs_in ls))
-
-pub run_bytes_few : (rs : List Run) → length (run_bytes rs) ≤ 6 * length rs
-unfolding run_bytes
-run_bytes_few [] = omega arith
-run_bytes_few (r ∷ rs) =
-    let fewer = run_bytes_few rs in
-    omega (
-      arith,
-      length-append (bytes_of r.key) (bytes_of r.count ++ run_bytes rs),
-      length-append (bytes_of r.count) (run_bytes rs),
-      few_bytes r.key,
-      few_bytes r.count,
-    )
 
 -- ---- the count, run by run: those that are left, and what was counted of all
 pub record Along (all rest : List Run) (R b : ℕ) : Type 0 where

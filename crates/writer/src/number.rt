@@ -3,7 +3,8 @@ ghost use Rattle.std.specs.Prelude.{◌≡◌, ◌+◌, ◌≤◌, length};
 ghost use Rattle.std.proofs.lemmas.List.Edits.{sets};
 ghost use Rattle.numbers.specs.Numbers.{highest, bytes_of};
 
-// The bytes of a number, stored from an offset on. The answer is the offset of what follows them.
+// The bytes of a number, stored from an offset on. The answer is the offset of what follows them: with that, three calls in a row are as plain as with a
+// cursor.
 pub(crate) fn put(v: u32, at: usize, bytes: &mut [u8]) -> usize
     requires v_le_highest { v ≤ highest }
     requires v_in_bounds { at + length (bytes_of v) ≤ length bytes.old }

@@ -73,6 +73,7 @@ fn after_blocks(levels: &[u8], level: u8) -> &[u8]
     ensures { Begins level levels.now result.now }
 {
     let mut rest = levels;
+    // A while, and no iterator over blocks: the answer is what is left, with the block that was not of one level.
     while let Some((block, others)) = rest.split_first_chunk::<64>() {
         if !one_level(block, level) {
             return rest;

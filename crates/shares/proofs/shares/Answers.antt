@@ -1,8 +1,7 @@
 -- `shares` meets its contract: each way out is one case of the call. Assumes nothing.
-use Rattle.std.proofs.Common.{sym, ◌∙◌, arith}
+use Rattle.std.proofs.Common.{sym, ◌∙◌}
 use Rattle.std.proofs.lemmas.Result.{err_from_is_err_and}
-use Rattle.leaves.proofs.Listed.{in_range_lem}
-use Rattle.shares.proofs.Sharing.{refused_list, refused_weight, few_weights, refused_room, all_shared}
+use Rattle.shares.proofs.Sharing.{refused_list, refused_weight, refused_room, all_shared}
 use Rattle.shares.proofs.shares.Goals as goal
 
 pub returns-in_err-check_list : goal.returns-in_err-check_list
@@ -21,14 +20,6 @@ pub returns-then-boundaries-p : goal.returns-then-boundaries-p
 returns-then-boundaries-p c =
     let a = c.args in
     refused_room a.k a.p a.list.now a.weights.now a.boundaries.now (sym c.if-out_of_range-2.ensures) (sym c.len.ensures ∙ c.if-len-weights.false) c.in_ok-check_list.ensures c.in_ok-check_weights.ensures c.if-boundaries-p.true
-
-pub divide-requires : goal.divide-requires
-divide-requires c =
-    let a = c.args in
-    let few_shares = sym c.if-out_of_range-2.ensures in
-    let shares = in_range_lem a.p few_shares in
-    let weights = few_weights a.k a.p a.list.now a.weights.now a.boundaries.now few_shares (sym c.len.ensures ∙ c.if-len-weights.false) c.in_ok-check_list.ensures in
-    (shares.0, (shares.1, (weights, omega (arith, c.if-boundaries-p.false))))
 
 pub returns : goal.returns
 returns c =

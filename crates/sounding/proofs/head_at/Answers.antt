@@ -14,6 +14,7 @@ use Rattle.format.specs.Reading.{opens, after_runs, after_roots, head_at}
 use Rattle.numbers.specs.Numbers.{Found, found, number_at}
 use Rattle.format.proofs.Tests.{roots_read, no_roots, many_roots, runs_read, runs_refused, no_runs, many_runs, head_is}
 use Rattle.sounding.proofs.head_at.Goals as goal
+use Rattle.sounding.proofs.head_at.Goals.{After-number_at-2}
 use Rattle.sounding.proofs.head_at.Goals.{then-roots-eq0-via-then-roots-eq0, then-roots-eq0-via-else-roots-eq0+then-from-roots}
 use Rattle.sounding.proofs.head_at.Goals.{then-runs-eq0-via-then-runs-eq0, then-runs-eq0-via-else-runs-eq0+then-runs-gt-LIMIT}
 
@@ -46,20 +47,28 @@ returns-then-roots-eq0 c =
       | then-roots-eq0-via-else-roots-eq0+then-from-roots w ↦ sym (read ∙ many_roots bs k w.if-roots-eq0.false (omega (arith, w.from.ensures)))
     ]
 
+-- K is in range, and behind it is the number of runs
+few_roots : (c : After-number_at-2) → c.in_ok-roots.roots.value ≤ 4096
+few_roots c = omega (arith, c.from.ensures, c.if-from-roots.false)
+
+runs_next : (c : After-number_at-2) (r : Found) → accepted r ≡ number_at c.args.bytes.now c.in_ok-roots.roots.next
+    → head_at c.args.bytes.now ≡ after_runs (found c.in_ok-roots.roots.value c.in_ok-roots.roots.next) r
+runs_next c =
+    onward c.args.bytes.now _ c.starts_with.ensures.value c.if-not-starts_with.false (found c.in_ok-roots.roots.value c.in_ok-roots.roots.next) c.in_ok-roots.ensures
+    c.if-roots-eq0.false (few_roots c)
+
 pub returns-in_err-runs : goal.returns-in_err-runs
 returns-in_err-runs c =
     let k = found c.in_ok-roots.roots.value c.in_ok-roots.roots.next in
-    let few : k.value ≤ 4096 = omega (arith, c.from.ensures, c.if-from-roots.false) in
     let p = err_from_is_err_and c.from_residual-in_err-runs.result c.from_residual-in_err-runs.ensures.1 in
     rw (p.1, p.2)
-    (sym (no_number c.args.bytes.now _ c.starts_with.ensures.value c.if-not-starts_with.false k c.in_ok-roots.ensures c.if-roots-eq0.false few _ _ c.in_err-runs.ensures))
+    (sym (no_number c.args.bytes.now _ c.starts_with.ensures.value c.if-not-starts_with.false k c.in_ok-roots.ensures c.if-roots-eq0.false (few_roots (goal.at.returns-in_err-runs c).After-number_at-2) _ _ c.in_err-runs.ensures))
 
 pub returns-then-runs-eq0 : goal.returns-then-runs-eq0
 returns-then-runs-eq0 c =
     let k = found c.in_ok-roots.roots.value c.in_ok-roots.roots.next in
     let r = found c.in_ok-runs.runs.value c.in_ok-runs.runs.next in
-    let few : k.value ≤ 4096 = omega (arith, c.from.ensures, c.if-from-roots.false) in
-    let read = onward c.args.bytes.now _ c.starts_with.ensures.value c.if-not-starts_with.false k c.in_ok-roots.ensures c.if-roots-eq0.false few r c.in_ok-runs.ensures in
+    let read = runs_next (goal.at.returns-then-runs-eq0 c).After-number_at-2 r c.in_ok-runs.ensures in
     elim c.then-runs-eq0.branch [
       | then-runs-eq0-via-then-runs-eq0 w ↦ sym (read ∙ no_runs k r w.if-runs-eq0.true)
       | then-runs-eq0-via-else-runs-eq0+then-runs-gt-LIMIT w ↦ sym (read ∙ many_runs k r w.if-runs-eq0.false w.if-runs-gt-LIMIT.true)
@@ -69,6 +78,5 @@ pub returns : goal.returns
 returns c =
     let k = found c.in_ok-roots.roots.value c.in_ok-roots.roots.next in
     let r = found c.in_ok-runs.runs.value c.in_ok-runs.runs.next in
-    let few : k.value ≤ 4096 = omega (arith, c.from.ensures, c.if-from-roots.false) in
-    sym (onward c.args.bytes.now _ c.starts_with.ensures.value c.if-not-starts_with.false k c.in_ok-roots.ensures c.if-roots-eq0.false few r c.in_ok-runs.ensures
+    sym (runs_next (goal.at.returns c).After-number_at-2 r c.in_ok-runs.ensures
     ∙ head_is k r c.if-runs-eq0.false c.if-runs-gt-LIMIT.false)

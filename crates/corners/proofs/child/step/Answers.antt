@@ -15,6 +15,6 @@ returns c =
     let s = c.sides-s in
     let row : c.child_row-row.result ≡ child_row a.kind a.number =
     c.child_row-row.ensures ∙ ap₂ child_row (mod-eq_of_lt c.requires.0) (mod-eq_of_lt c.requires.1) in
-    ap (λ (q : Step). 4 * (q.x + s.result / 2) + (q.y + s.result % 2)) row
+    c.from.ensures ∙ ap (λ (q : Step). 4 * (q.x + s.result / 2) + (q.y + s.result % 2)) row
     ∙ digit_is (a.corner % 3) a.kind a.number s.result (mod-lt a.corner (lit< tt)) c.requires.0 c.requires.1
     (subst (λ (q : Step). CornerRow q.kind (a.corner % 3) s.result) row s.ensures)

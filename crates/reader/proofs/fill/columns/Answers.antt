@@ -5,8 +5,12 @@ use native.Mathlib.Nat.{sub-zero}
 use native.Mathlib.Omega.{arith}
 use lib.Pow.{pow_pos}
 use Rattle.reader.proofs.Loans.{loans_kept, loans_after}
-use Rattle.reader.proofs.Underway.{underway_start, level_there, level_low, count_there, turn_is, roots_kept, levels_kept, positions_kept, underway_all}
+use Rattle.columns.specs.Lent.{held}
+use Rattle.format.specs.Reading.{sound}
+use Rattle.sounding.specs.Answers.{front_of, spot_of}
+use Rattle.reader.proofs.Underway.{Turn, underway_start, level_there, level_low, count_there, turn_is, roots_kept, levels_kept, positions_kept, underway_all}
 use Rattle.reader.proofs.fill.columns.Goals as goal
+use Rattle.reader.proofs.fill.columns.Goals.{After-unwrap-count}
 
 pub loop-run-init : goal.loop-run-init
 loop-run-init c =
@@ -34,41 +38,39 @@ overflow_cast-level c =
     let under = c.loop-run.invariant.underway in
     omega (arith, level_low 8 21 c.args.head.roots (pow_pos 3) bs _ _ _ _ _ _ _ under (omega arith) _ _ c.number_at.ensures c.unwrap-level.ensures)
 
+-- the run that the turn has read
+run_found : (c : After-unwrap-count)
+    → Turn 8 21 c.args.head.roots (pow_pos 3) c.args.bytes.now (sound 8 21 c.args.bytes.now (front_of c.args.head)).leaves (held c.args.lent.now) (c.args.head.runs - c.loop-run._run)
+    c.loop-run.at (spot_of c.loop-run.come) c.loop-run.size (held c.loop-run.lent) c.unwrap-level.result.value c.unwrap-count.result.value c.unwrap-count.result.next
+run_found c =
+    turn_is 8 21 c.args.head.roots (pow_pos 3) c.args.bytes.now _ _ _ _ _ _ _ c.loop-run.invariant.underway (omega arith) _ _ c.number_at.ensures c.unwrap-level.ensures
+    _ c.number_at-in-loop-run.ensures _ c.unwrap-count.ensures
+
 pub run-come-requires-clause-running : goal.run-come-requires-clause-running
 run-come-requires-clause-running c =
-    let bs = c.args.bytes.now in
     let under = c.loop-run.invariant.underway in
-    let turn =
-    turn_is 8 21 c.args.head.roots (pow_pos 3) bs _ _ _ _ _ _ _ under (omega arith) _ _ c.number_at.ensures c.unwrap-level.ensures _ c.number_at-in-loop-run.ensures _ c.unwrap-count.ensures in
+    let turn = run_found (goal.at.run-come-requires-clause-running c).After-unwrap-count in
     record { shallow = turn.shallow; proper = under.proper; whole = turn.whole; low = omega (arith, turn.root_after, c.well_formed) }
 
 pub run-come-requires-clause-room : goal.run-come-requires-clause-room
 run-come-requires-clause-room c =
-    let bs = c.args.bytes.now in
     let under = c.loop-run.invariant.underway in
-    let turn =
-    turn_is 8 21 c.args.head.roots (pow_pos 3) bs _ _ _ _ _ _ _ under (omega arith) _ _ c.number_at.ensures c.unwrap-level.ensures _ c.number_at-in-loop-run.ensures _ c.unwrap-count.ensures in
+    let turn = run_found (goal.at.run-come-requires-clause-room c).After-unwrap-count in
     let room = c.requires.room in
     record {
-      in_roots = omega (arith, turn.room, room.in_roots, roots_kept 8 21 c.args.head.roots (pow_pos 3) bs _ _ _ _ _ _ _ under room);
-      in_levels = omega (arith, turn.room, room.in_levels, levels_kept 8 21 c.args.head.roots (pow_pos 3) bs _ _ _ _ _ _ _ under room);
-      in_positions = omega (arith, turn.room, room.in_positions, positions_kept 8 21 c.args.head.roots (pow_pos 3) bs _ _ _ _ _ _ _ under room);
+      in_roots = omega (arith, turn.room, room.in_roots, roots_kept 8 21 c.args.head.roots (pow_pos 3) c.args.bytes.now _ _ _ _ _ _ _ under room);
+      in_levels = omega (arith, turn.room, room.in_levels, levels_kept 8 21 c.args.head.roots (pow_pos 3) c.args.bytes.now _ _ _ _ _ _ _ under room);
+      in_positions = omega (arith, turn.room, room.in_positions, positions_kept 8 21 c.args.head.roots (pow_pos 3) c.args.bytes.now _ _ _ _ _ _ _ under room);
     }
 
 pub overflow_add-size : goal.overflow_add-size
 overflow_add-size c =
-    let bs = c.args.bytes.now in
-    let under = c.loop-run.invariant.underway in
-    let turn =
-    turn_is 8 21 c.args.head.roots (pow_pos 3) bs _ _ _ _ _ _ _ under (omega arith) _ _ c.number_at.ensures c.unwrap-level.ensures _ c.number_at-in-loop-run.ensures _ c.unwrap-count.ensures in
+    let turn = run_found (goal.at.overflow_add-size c).After-unwrap-count in
     omega (arith, turn.few)
 
 pub loop-run-preserved : goal.loop-run-preserved
 loop-run-preserved c =
-    let bs = c.args.bytes.now in
-    let under = c.loop-run.invariant.underway in
-    let turn =
-    turn_is 8 21 c.args.head.roots (pow_pos 3) bs _ _ _ _ _ _ _ under (omega arith) _ _ c.number_at.ensures c.unwrap-level.ensures _ c.number_at-in-loop-run.ensures _ c.unwrap-count.ensures in
+    let turn = run_found (goal.at.loop-run-preserved c).After-unwrap-count in
     let left = c.args.head.runs - c.loop-run._run in
     let less : c.args.head.runs - (c.loop-run._run + 1) ≡ left - 1 = omega arith in
     record {

@@ -1,9 +1,11 @@
 -- `run` meets its contract: each turn lays what is left of a root, or of the run. Assumes nothing.
+use Prim.Native.Nat.{◌≤◌}
 use native.Mathlib.Omega.{arith}
 use Rattle.sounding.specs.Answers.{spot_of}
 use Rattle.reader.proofs.Loans.{loans_kept, loans_after}
 use Rattle.reader.proofs.Laying.{laid_start, root_low, laid_full, laid_within, some_each, each_small, first_below, end_low, laid_run}
 use Rattle.reader.proofs.fill.run.Goals as goal
+use Rattle.reader.proofs.fill.run.Goals.{After-min-many}
 
 pub loop-done-init : goal.loop-done-init
 loop-done-init c =
@@ -13,17 +15,18 @@ loop-done-init c =
       laid = laid_start a.level _ a.count a.come.root _ a.at _ (first_below a.level a.count (spot_of a.come) c.requires.running);
     }
 
-pub overflow_cast-first : goal.overflow_cast-first
-overflow_cast-first c =
+-- the root that the turn has come to is one that 16 bits can number
+root_numbered : (c : After-min-many) → c.loop-done.root ≤ 65535
+root_numbered c =
     let a = c.args in
     let f = c.requires.running in
     omega (arith, root_low _ _ _ _ _ _ _ _ _ _ _ c.loop-done.invariant.laid (some_each a.level a.count (spot_of a.come) f) (end_low a.level a.count (spot_of a.come) f))
 
+pub overflow_cast-first : goal.overflow_cast-first
+overflow_cast-first c = omega (arith, root_numbered (goal.at.overflow_cast-first c).After-min-many)
+
 pub overflow_add-root : goal.overflow_add-root
-overflow_add-root c =
-    let a = c.args in
-    let f = c.requires.running in
-    omega (arith, root_low _ _ _ _ _ _ _ _ _ _ _ c.loop-done.invariant.laid (some_each a.level a.count (spot_of a.come) f) (end_low a.level a.count (spot_of a.come) f))
+overflow_add-root c = omega (arith, root_numbered (goal.at.overflow_add-root c).After-min-many)
 
 pub loop-done-preserved-then-position-each : goal.loop-done-preserved-then-position-each
 loop-done-preserved-then-position-each c =

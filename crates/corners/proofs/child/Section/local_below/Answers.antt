@@ -25,15 +25,15 @@ pub overflow_add-y : goal.overflow_add-y
 overflow_add-y c = let a = c.args in omega (arith, (in_reach a.self a.parent a.number c.requires).to_y)
 
 pub overflow_mul-z : goal.overflow_mul-z
-overflow_mul-z c = let a = c.args in omega (arith, (in_reach a.self a.parent a.number c.requires).step_z)
+overflow_mul-z c = let a = c.args in rw c.from.ensures (omega (arith, (in_reach a.self a.parent a.number c.requires).step_z))
 
-pub overflow_add-z-2 : goal.overflow_add-z-2
-overflow_add-z-2 c = let a = c.args in omega (arith, (in_reach a.self a.parent a.number c.requires).to_z)
+pub overflow_add-z : goal.overflow_add-z
+overflow_add-z c = let a = c.args in rw c.from.ensures (omega (arith, (in_reach a.self a.parent a.number c.requires).to_z))
 
 pub returns : goal.returns
-returns c = let a = c.args in is_corner a.self a.parent a.number c.requires
+returns c = let a = c.args in rw c.from.ensures (is_corner a.self a.parent a.number c.requires)
 
 pub invariant_of-result : goal.invariant_of-result
 invariant_of-result c =
     let inside = in_root c.args.self c.args.parent c.args.number c.requires in
-    record { ordered = inside.in_plan.ordered; across = inside.in_plan.across; upwards = inside.upwards }
+    record { ordered = inside.in_plan.ordered; across = inside.in_plan.across; upwards = rw c.from.ensures inside.upwards }
