@@ -28,8 +28,7 @@ pub(crate) struct Section {
 }
 
 // How far a corner of each of a triangle's four children lies from the parent's anchor, for a parent of either type: a hexadecimal digit for each,
-// those of a parent of type 0 lowest, and of these child 0. Both tables are read here, for the whole section, and not at each point: each read
-// copies them.
+// those of a parent of type 0 lowest, and of these child 0. Both tables are read here, for the whole section, and not at each point.
 fn steps(corner: u8) -> u32
     ensures { result ≡ steps_to (corner % triangles.CORNERS) }
 {

@@ -2,12 +2,14 @@
 -- a definition gives this paper's number and values for each of the enum's cases, and the promises use that definition." Definitions only.
 --
 --   number_of r, place_of r   the paper's number, and the place
+--   refusal_text r            the bytes by which a refusal prints itself, as `refused 23 place 7`
 --   outcome_of r              the outcome that a call's result stands for
 --   order_of c                the paper's word for how two compare: equal is same
 --   ordering_of r             the outcome that an order of two stands for
 --
 -- Assumes nothing.
-use Rattle.std.specs.Prelude.{ℕ}
+use Rattle.std.specs.Prelude.{List, ◌++◌, ℕ, codes}
+use Rattle.std.specs.Fmt.{decimal}
 use Rattle.std.specs.declared.result.Result.{Result}
 use Rattle.std.specs.declared.result.Result.TheVariants.{Ok, Err}
 use Rattle.std.specs.declared.cmp.Ordering.{Ordering}
@@ -67,6 +69,9 @@ place_of (UnfitRuns place) = place
 place_of (BytesLeft place) = place
 place_of (UnfitField place) = place
 place_of (FarCorner place) = place
+
+abbrev pub refusal_text : Refusal → List ℕ
+refusal_text r = codes "refused " ++ (decimal (number_of r) ++ (codes " place " ++ decimal (place_of r)))
 
 abbrev pub outcome_of : {A : Type 0} → Result A Refusal → Outcome A
 outcome_of (Ok a) = accepted a

@@ -8,6 +8,7 @@ use native.Mathlib.Omega.{arith}
 use lib.Dec.{leb, ltb, eqb}
 use lib.ListN.{length}
 use borrow.Author.Tests.{le-ltb}
+use Rattle.paper.specs.Outcome as outcomes
 use Rattle.paper.specs.Outcome.{Outcome, accepted, refused}
 use Rattle.paper.specs.Refusals.{outcome_of, ordering_of}
 use Rattle.paper.proofs.Tests.{passed_by}
@@ -47,6 +48,8 @@ pub record Rows {E : Type 0} (S : Shape E) (faults : List ℕ) : Type 0 where
   pub neighbour : (e : E) (i : ℕ) → Refuses (8 ∷ 10 ∷ faults) 0 (calls.neighbour S e i)
   pub family : (equal : Bool) (es : List E) → Refuses (11 ∷ faults) (length es) (calls.family S equal es)
   pub order : (e f : E) → Refuses faults 1 (calls.order S e f)
+  pub check : (e : E) (place : ℕ) → Refuses faults place (outcomes.fault_at (S.fault e) place)
+  pub across : (e : E) (i : ℕ) → Refuses (10 ∷ []) 0 (S.neighbour e i)
 
 pub rows : {E : Type 0} (S : Shape E) (faults : List ℕ) → ((e : E) → Known faults (S.fault e)) → Memᴰ 1 faults → Either S → Rows S faults
 rows S faults known deep across =
@@ -68,6 +71,8 @@ rows S faults known deep across =
       family = λ equal es.
           when (not equal) 11 at0 (λ long. in_turn S.fault 0 es (λ e inside. wider 11 (known e)) (omega arith) (fine (Words.family S es)));
       order = λ e f. in_turn S.fault 0 (e ∷ f ∷ []) (λ g inside. known g) (omega arith) (fine (Words.order S e f));
+      check = λ e place. fault_at (S.fault e) place (known e) (omega arith) (fine tt);
+      across = λ e i. across_so S across e i at0;
     }
 
 pub on_elements : {E : Type 0} (S : Shape E) (faults : List ℕ) → Rows S faults → OnElements S faults
@@ -83,6 +88,8 @@ on_elements S faults refuses =
       neighbour = λ e i. answer outcome_of results (refuses.neighbour e i);
       family = λ equal es. answer outcome_of results (refuses.family equal es);
       order = λ e f. answer ordering_of comparisons (refuses.order e f);
+      check = λ e place. answer outcome_of results (refuses.check e place);
+      across = λ e i. answer outcome_of results (refuses.across e i);
     }
 
 -- ---- a sound element handed back

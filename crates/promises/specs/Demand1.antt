@@ -11,13 +11,14 @@
 --                          answer's reading f is a refusal, the memory is what it was, its number is one of ns, and its place at most `most`
 --   Answer f ns most o     the same for a call that is lent nothing to write into: its contract is that its answer's reading is o
 --   OnElements S fs        the calls on the elements of a shape; fs are the numbers of the checks on an element, 1 among them, which is also that
---                          of a level asked for
+--                          of a level asked for. Also what of its work for the calls may refuse: the checks, at any place, and the step across a face
 --   filed                  no offset in a file up to its first fault, and no file's length, is larger: four bytes, K, R, and at most 1,048,576
 --                          runs of two numbers of three bytes
 --   OnLists                the calls on lists and files
 --   OnParts                functions that only this house calls: order of `tree`, check of `positions` and of `marks`, number_at of `numbers`,
---                          head_at and sound of `sounding`, lay of `columns`, number_at of `fields`, answer, print and lay of `text`. The last two are
---                          no calls of the paper: they write what has room, and print answers how many bytes there are. Their words:
+--                          head_at and sound of `sounding`, lay of `columns`, number_at of `fields`, answer, print, answer_refusal, print_refusal
+--                          and lay of `text`. The two that print and lay are
+--                          no calls of the paper: they write what has room, and the two answer how many bytes there are. Their words:
 --                          `tree/specs/Words.antt`, `positions/specs/Positions.antt`, `marks/specs/Marks.antt`,
 --                          `numbers/specs/Numbers.antt`, `sounding/specs/Answers.antt`, `columns/specs/Laying.antt`, `text/specs/Text.antt`,
 --                          and `Inner.antt` of `fields` and `text`
@@ -26,7 +27,7 @@
 -- Assumes nothing.
 use Rattle.std.specs.Prelude.{◌≡◌, Bool, List, [], ◌∷◌, ℕ, ◌+◌, ◌*◌, ◌≤◌, length}
 use Rattle.std.proofs.lemmas.List.Edits.{sets}
-use Rattle.paper.specs.Outcome.{Outcome, accepted, refused, same}
+use Rattle.paper.specs.Outcome.{Outcome, accepted, refused, same, fault_at}
 use Rattle.paper.specs.Memory.{Decided, Spared}
 use Rattle.paper.specs.Refusals.{outcome_of, ordering_of, order_of}
 use Rattle.std.specs.declared.cmp.Ordering.{Ordering}
@@ -86,6 +87,8 @@ pub record OnElements {E : Type 0} (S : Shape E) (faults : List ℕ) : Type 0 wh
   pub neighbour : (e : E) (i : ℕ) → Answer {A = E} outcome_of (8 ∷ 10 ∷ faults) 0 (calls.neighbour S e i)
   pub family : (equal : Bool) (es : List E) → Answer outcome_of (11 ∷ faults) (length es) (calls.family S equal es)
   pub order : (e f : E) → Answer ordering_of faults 1 (calls.order S e f)
+  pub check : (e : E) (place : ℕ) → Answer outcome_of faults place (fault_at (S.fault e) place)
+  pub across : (e : E) (i : ℕ) → Answer {A = E} outcome_of (10 ∷ []) 0 (S.neighbour e i)
 
 -- ---- lists and files
 abbrev pub filed : ℕ

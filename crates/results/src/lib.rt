@@ -2,6 +2,7 @@
 #![tactic(auto, unfolding(crate::specs::Results::line_result, crate::specs::Results::triangle_result, crate::specs::Results::prism_result, crate::specs::Results::number_result, crate::specs::Results::truth_result, crate::specs::Results::compare_result, crate::specs::Results::pass_result, crate::specs::Results::grid_result, crate::specs::Results::point_result))]
 
 ghost use Rattle.std.specs.Prelude.{◌≡◌};
+ghost use Rattle.paper.specs.Outcome.{refused};
 ghost use Rattle.paper.specs.Refusals.{outcome_of, ordering_of};
 ghost use Rattle.reader.specs.Answers.{grid_of};
 ghost use Rattle.results.specs.Results as results;
@@ -81,7 +82,15 @@ fn told<T: Copy>(a: Result<T, Refusal>, none: T) -> (u64, T)
 fn word(refusal: Refusal) -> u64
     ensures { result ≡ results.word (outcome_of {A = Unit {0}} (Err refusal)) }
 {
-    refusal.place() % 72057594037927936 * 256 + refusal.number() as u64
+    of_refusal(refusal.number(), refusal.place())
+}
+
+// The word of any number, one of the paper's or not, and a place: what a call with no value answers that refuses so. Below, the results of such a
+// refusal by every other call.
+pub fn of_refusal(number: u8, place: u64) -> u64
+    ensures { result ≡ pass_result (refused number place) }
+{
+    place % 72057594037927936 * 256 + number as u64
 }
 
 impl From<Result<Line, Refusal>> for LineResult {
@@ -195,5 +204,98 @@ impl From<Result<Point, Refusal>> for PointResult {
         };
         let (refusal, value) = told(a, none);
         PointResult { refusal, value }
+    }
+}
+
+impl From<(u8, u64)> for LineResult {
+    ghost from_gives = { λ a r. r ≡ line_result (refused a.0 a.1) };
+
+    fn from(a: (u8, u64)) -> LineResult {
+        LineResult {
+            refusal: of_refusal(a.0, a.1),
+            value: Line { x: 0, level: 0 },
+        }
+    }
+}
+
+impl From<(u8, u64)> for TriangleResult {
+    ghost from_gives = { λ a r. r ≡ triangle_result (refused a.0 a.1) };
+
+    fn from(a: (u8, u64)) -> TriangleResult {
+        TriangleResult {
+            refusal: of_refusal(a.0, a.1),
+            value: Triangle {
+                x: 0,
+                y: 0,
+                level: 0,
+                kind: 0,
+            },
+        }
+    }
+}
+
+impl From<(u8, u64)> for PrismResult {
+    ghost from_gives = { λ a r. r ≡ prism_result (refused a.0 a.1) };
+
+    fn from(a: (u8, u64)) -> PrismResult {
+        PrismResult {
+            refusal: of_refusal(a.0, a.1),
+            value: Prism {
+                x: 0,
+                y: 0,
+                z: 0,
+                level: 0,
+                kind: 0,
+            },
+        }
+    }
+}
+
+impl From<(u8, u64)> for NumberResult {
+    ghost from_gives = { λ a r. (r ≡ number_result (refused a.0 a.1)) × (r ≡ truth_result (refused a.0 a.1)) };
+
+    fn from(a: (u8, u64)) -> NumberResult {
+        NumberResult {
+            refusal: of_refusal(a.0, a.1),
+            value: 0,
+        }
+    }
+}
+
+impl From<(u8, u64)> for CompareResult {
+    ghost from_gives = { λ a r. r ≡ compare_result (refused a.0 a.1) };
+
+    fn from(a: (u8, u64)) -> CompareResult {
+        CompareResult {
+            refusal: of_refusal(a.0, a.1),
+            value: 0,
+        }
+    }
+}
+
+impl From<(u8, u64)> for GridResult {
+    ghost from_gives = { λ a r. r ≡ grid_result (refused a.0 a.1) };
+
+    fn from(a: (u8, u64)) -> GridResult {
+        GridResult {
+            refusal: of_refusal(a.0, a.1),
+            roots: 0,
+            leaves: 0,
+        }
+    }
+}
+
+impl From<(u8, u64)> for PointResult {
+    ghost from_gives = { λ a r. r ≡ point_result (refused a.0 a.1) };
+
+    fn from(a: (u8, u64)) -> PointResult {
+        PointResult {
+            refusal: of_refusal(a.0, a.1),
+            value: Point {
+                x: 0.0,
+                y: 0.0,
+                z: 0.0,
+            },
+        }
     }
 }

@@ -5,7 +5,7 @@
 ghost use Rattle.std.specs.Prelude.{◌≡◌, min};
 ghost use Rattle.std.proofs.lemmas.List.Edits.{sets};
 ghost use Rattle.forms.specs.Forms.{form_of};
-ghost use Rattle.text.specs.Text.{Prints};
+ghost use Rattle.text.specs.Text.{Prints, refusal_line};
 ghost use Rattle.text.specs.Inner.{Put, spelled};
 
 use forms::Form;
@@ -22,7 +22,9 @@ pub fn fitting(n: usize, room: usize) -> usize
     n.min(room)
 }
 
-// Some bytes, from `at` on; those past the end are left out.
+// Some bytes, from `at` on; those past the end are left out. One by one: `copy_from_slice` would want `memmove`, which the archive for C needs
+// nowhere else. Not inlined: what is usual goes through `Writer::word`.
+#[inline(never)]
 pub fn lay(out: &mut [u8], at: usize, text: &[u8])
     ensures { out.new ≡ sets out.old at text.now }
 {
@@ -30,7 +32,9 @@ pub fn lay(out: &mut [u8], at: usize, text: &[u8])
         return;
     }
     let n = fitting(text.len(), out.len() - at);
-    out[at..at + n].copy_from_slice(&text[..n]);
+    for i in 0..n {
+        out[at + i] = text[i];
+    }
 }
 
 // All that is printed, at the front of a lent buffer, and how many bytes that is.
@@ -53,4 +57,25 @@ pub fn answer(asked: Result<Form, Refusal>, out: &mut [u8]) -> Result<u64, Refus
     }
     print(asked, out);
     Ok(size as u64)
+}
+
+// The one line of a refusal of any number, one of the paper's or not, and how many bytes it has.
+pub fn print_refusal(number: u8, field: u64, out: &mut [u8]) -> usize
+    ensures { Put (refusal_line number field) 0 out.old out.new result }
+{
+    let mut w = Writer { out, at: 0 };
+    w.refusal(number, field);
+    w.at
+}
+
+// That line, where it fits. Refused: 14, with the bytes needed.
+pub fn answer_refusal(number: u8, field: u64, out: &mut [u8]) -> Result<u64, Refusal>
+    ensures { Prints (refusal_line number field) result out.old out.new }
+{
+    let needed = print_refusal(number, field, &mut []);
+    if out.len() < needed {
+        return Err(Refusal::NoRoom(needed as u64));
+    }
+    print_refusal(number, field, out);
+    Ok(needed as u64)
 }

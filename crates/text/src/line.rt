@@ -1,6 +1,5 @@
 // The lines that are printed.
 ghost use Rattle.std.specs.Prelude.{◌+◌, ◌*◌, ◌/◌, ◌^◌, ◌≤◌, ◌<◌};
-ghost use Rattle.paper.specs.Refusals.{number_of, place_of};
 ghost use Rattle.forms.specs.Forms.{form_of};
 ghost use Rattle.text.specs.Text.{share_line, share_lines, first_line, refusal_line};
 ghost use Rattle.text.specs.Inner.{Wrote, spelled};
@@ -51,13 +50,13 @@ impl<'a> Writer<'a> {
         }
     }
 
-    // The one line of a refusal.
-    fn refusal(&mut self, r: Refusal)
+    // The one line of a refusal: its number, and the field.
+    pub(crate) fn refusal(&mut self, number: u8, field: u64)
         requires { self.old.at + 56 < 2 ^ 64 }
-        ensures { Wrote (refusal_line (number_of r) (place_of r)) self.old self.new }
+        ensures { Wrote (refusal_line number field) self.old self.new }
     {
-        self.entry(b"refused ", u64::from(r.number()), b' ');
-        self.entry(b"field ", r.place(), b'\n');
+        self.entry(b"refused ", u64::from(number), b' ');
+        self.entry(b"field ", field, b'\n');
     }
 
     // An order's lines, or the one line of a refusal.
@@ -70,7 +69,7 @@ impl<'a> Writer<'a> {
                 self.first_line(f);
                 self.share_lines(f.leaves, f.shares);
             }
-            Err(r) => self.refusal(r),
+            Err(r) => self.refusal(r.number(), r.place()),
         }
     }
 }

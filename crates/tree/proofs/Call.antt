@@ -1,4 +1,4 @@
--- The ways out of each call, one law a case, in the paper's order: a function's proof cites the law of the `return` that it is at.
+-- Ways out of the calls, in the paper's order, each a law that a function's proof cites or another law rests on.
 -- Each follows from the tests that led there. Assumes nothing.
 use Rattle.std.proofs.Common.{◌≡◌, ℕ, ◌+◌, ◌^◌, ◌<◌, ◌≤◌, Bool, true, List, sym, ap, ◌∙◌, le-ltb, lt-ltb, eq-eqb, ne_eqb, le-leb}
 use borrow.Author.Tests.{lt-leb}

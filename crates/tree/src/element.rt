@@ -82,6 +82,9 @@ pub trait Element: Copy + PartialEq {
 
     ghost same: { Same shape Self.PartialEq.eq };
 
+    // The calls. Those that answer an element hand on a refusal by `if let` and not by `?`, and `neighbour` takes its answer apart: else a line
+    // that is answered over C is written in parts and then read whole, which the machine has to wait for (docs/SPEED.md).
+
     // The element of a level at a position. Refused: 1, 5.
     final fn at(level: u8, position: u64) -> Result<Self, Refusal>
         ensures { outcome_of result ≡ Calls.at shape level position }
@@ -107,7 +110,9 @@ pub trait Element: Copy + PartialEq {
     final fn parent(self) -> Result<Self, Refusal>
         ensures { outcome_of result ≡ Calls.parent shape self }
     {
-        self.check(0)?;
+        if let Err(refusal) = self.check(0) {
+            return Err(refusal);
+        }
         if self.level() == 0 {
             return Err(Refusal::LevelTooLow(0));
         }
@@ -118,7 +123,9 @@ pub trait Element: Copy + PartialEq {
     final fn child(self, number: u8) -> Result<Self, Refusal>
         ensures { outcome_of result ≡ Calls.child shape self number }
     {
-        self.check(0)?;
+        if let Err(refusal) = self.check(0) {
+            return Err(refusal);
+        }
         if HIGHEST <= self.level() {
             return Err(Refusal::TooSmall(0));
         }
@@ -132,7 +139,9 @@ pub trait Element: Copy + PartialEq {
     final fn successor(self) -> Result<Self, Refusal>
         ensures { outcome_of result ≡ Calls.successor shape self }
     {
-        self.check(0)?;
+        if let Err(refusal) = self.check(0) {
+            return Err(refusal);
+        }
         let next = self.rank() + 1;
         let level = self.level();
         if next == 1u64 << (Self::BITS * level) {
@@ -145,7 +154,9 @@ pub trait Element: Copy + PartialEq {
     final fn first_descendant(self, level: u8) -> Result<Self, Refusal>
         ensures { outcome_of result ≡ Calls.first shape self level }
     {
-        self.check(0)?;
+        if let Err(refusal) = self.check(0) {
+            return Err(refusal);
+        }
         if HIGHEST < level {
             return Err(Refusal::LevelTooHigh(0));
         }
@@ -159,7 +170,9 @@ pub trait Element: Copy + PartialEq {
     final fn last_descendant(self, level: u8) -> Result<Self, Refusal>
         ensures { outcome_of result ≡ Calls.last shape self level }
     {
-        self.check(0)?;
+        if let Err(refusal) = self.check(0) {
+            return Err(refusal);
+        }
         if HIGHEST < level {
             return Err(Refusal::LevelTooHigh(0));
         }
@@ -173,11 +186,16 @@ pub trait Element: Copy + PartialEq {
     final fn neighbour(self, face: u8) -> Result<Self, Refusal>
         ensures { outcome_of result ≡ Calls.neighbour shape self face }
     {
-        self.check(0)?;
+        if let Err(refusal) = self.check(0) {
+            return Err(refusal);
+        }
         if Self::FACES <= face {
             return Err(Refusal::NumberTooLarge(0));
         }
-        self.across(face)
+        match self.across(face) {
+            Ok(e) => Ok(e),
+            Err(refusal) => Err(refusal),
+        }
     }
 
     // The order of two elements. Refused: the checks on each, at place 0 or 1.

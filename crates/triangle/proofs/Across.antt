@@ -1,4 +1,4 @@
--- The ways out of a triangle's neighbour: the two coordinates, one after the other, then the type. Assumes nothing.
+-- A triangle's neighbour, once both its coordinates are within the edge: by its type. Assumes nothing.
 use mathlib.Core.Path.{◌≡◌, ap, ap₂, ◌∙◌, sym}
 use mathlib.Core.Bool.{Bool, false, not, ◌||◌}
 use Prim.Native.Nat.{ℕ}
@@ -7,8 +7,6 @@ use Rattle.tree.specs.Anchors.{side, moved, off_edge}
 use Rattle.rows.specs.declared.Step.{Step}
 use Rattle.triangle.specs.declared.Triangle.{Triangle}
 use Rattle.triangle.specs.Elements.{inside_root, across_by}
-
--- ---- outside the root, by type
 
 -- ---- across a face. s is its row; h is the side, as the code has it
 module _ (e : Triangle) (s : Step) (h : ℕ) (sized : h ≡ side 21 e.level) where

@@ -1,4 +1,4 @@
--- `prism::work::placed` meets its contract: the loop goes down by one digit a turn. Assumes nothing.
+-- `placed` of a prism meets its contract: the loop goes down by one digit a turn. Assumes nothing.
 use Rattle.prism.proofs.Loops.{start, again, end}
 use Rattle.prism.proofs.PrismElement.placed.Goals as goal
 

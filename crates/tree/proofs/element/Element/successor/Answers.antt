@@ -11,14 +11,14 @@ use Rattle.tree.proofs.element.Element.successor.Goals as goal
 pub overflow_add-next : goal.overflow_add-next
 overflow_add-next g c =
     let m = g.met.Self.Element in
-    omega (arith, c.rank-next.ensures, next_fits _ m.states m.lawful c.args.self (faultless _ 0 c.in_ok-check.ensures))
+    omega (arith, c.rank-next.ensures, next_fits _ m.states m.lawful c.args.self (faultless _ 0 c.in_default.ensures))
 
 pub returns-then-next-BITS : goal.returns-then-next-BITS
 returns-then-next-BITS g c =
     let m = g.met.Self.Element in
     let S = g.Self.Element.shape in
     let e = c.args.self in
-    let sound = faultless _ 0 c.in_ok-check.ensures in
+    let sound = faultless _ 0 c.in_default.ensures in
     let size = level_size S m.states (S.level e) (shallow S m.states m.lawful e sound) in
     sym (successor_refused_9 S e sound (rw (c.rank-next.ensures, c.BITS.ensures, c.level-level.ensures) at c.if-next-BITS.true ∙ size))
 
@@ -27,7 +27,7 @@ placed-requires g c =
     let m = g.met.Self.Element in
     let S = g.Self.Element.shape in
     let e = c.args.self in
-    let sound = faultless _ 0 c.in_ok-check.ensures in
+    let sound = faultless _ 0 c.in_default.ensures in
     let level = shallow S m.states m.lawful e sound in
     let size = level_size S m.states (S.level e) level in
     let below = position_lt S m.lawful e sound in
@@ -39,7 +39,7 @@ returns g c =
     let m = g.met.Self.Element in
     let S = g.Self.Element.shape in
     let e = c.args.self in
-    let sound = faultless _ 0 c.in_ok-check.ensures in
+    let sound = faultless _ 0 c.in_default.ensures in
     let size = level_size S m.states (S.level e) (shallow S m.states m.lawful e sound) in
     let more = rw (c.rank-next.ensures, c.BITS.ensures, c.level-level.ensures) at c.if-next-BITS.false in
     ap accepted (c.placed.ensures ∙ ap₂ (λ (l p : ℕ). element_at S l (p + 1)) c.level-level.ensures c.rank-next.ensures)
